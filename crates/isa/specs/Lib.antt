@@ -3,3 +3,7 @@ pub mod Operations
 pub mod Arithmetic
 pub mod Book
 pub mod Clocks
+pub mod Addresses
+pub mod Instructions
+pub mod Lines
+pub mod Encoding
