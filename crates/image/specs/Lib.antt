@@ -5,3 +5,4 @@ pub mod Reading
 pub mod Writing
 pub mod Accepting
 pub mod Loading
+pub mod Views

@@ -15,25 +15,36 @@ use Rattle.image.specs.Segments.{Segment}
 abbrev pub mark : ℕ
 mark = 0x53524349
 
+-- the last 8 bytes of a segment are its first word number and its count; its words stand before them
+abbrev pub first-of : List ℕ → ℕ
+first-of bytes = number-at bytes (length bytes - 8)
+
+abbrev pub count-of : List ℕ → ℕ
+count-of bytes = number-at bytes (length bytes - 4)
+
+-- how many bytes stand before the words of the segment at the end
+abbrev pub before-of : List ℕ → ℕ
+before-of bytes = length bytes - 8 - 4 * count-of bytes
+
 -- bytes, with the segment at their end taken off
 pub record Split : Type 0 where
   pub before : List ℕ
   pub segment : Segment
 
--- the segment number i, which stands at the end of the bytes: its words, its first word number and its count. It may not pass the limit
+abbrev pub split-off : List ℕ → Split
+split-off bytes = record {
+  before = take (before-of bytes) bytes;
+  segment = record { first = first-of bytes; values = words-of (take (4 * count-of bytes) (drop (before-of bytes) bytes)) };
+}
+
+-- the segment number i, which stands at the end of the bytes and may not pass the limit
 abbrev pub last-segment : ℕ → ℕ → List ℕ → Result Split ImageRefusal
 last-segment i limit bytes =
-    let left = length bytes - 8 in
-    let first = number-at bytes left in
-    let count = number-at bytes (left + 4) in
     cond (ltb (length bytes) 8) (Err (Cut i (length bytes)))
-    (cond (eqb count 0) (Err (Empty i))
-    (cond (ltb left (4 * count)) (Err (Beyond i count left))
-    (cond (ltb limit (first + count)) (Err (Overlap i first count limit))
-    (Ok (record {
-      before = take (left - 4 * count) bytes;
-      segment = record { first = first; values = words-of (take (4 * count) (drop (left - 4 * count) bytes)) };
-    })))))
+    (cond (eqb (count-of bytes) 0) (Err (Empty i))
+    (cond (ltb (length bytes - 8) (4 * count-of bytes)) (Err (Beyond i (count-of bytes) (length bytes - 8)))
+    (cond (ltb limit (first-of bytes + count-of bytes)) (Err (Overlap i (first-of bytes) (count-of bytes) limit))
+    (Ok (split-off bytes)))))
 
 -- one segment more after those that were read
 abbrev pub followed : Result (List Segment) ImageRefusal → Segment → Result (List Segment) ImageRefusal

@@ -1,4 +1,10 @@
 // Program images: bytes that list words of a memory, how they are read, and what they set.
+mod image;
+mod number;
+mod part;
 mod refusal;
+mod walk;
 
+pub use image::Image;
+pub use part::ImagePart;
 pub use refusal::ImageRefusal;
