@@ -8,8 +8,8 @@ use native.Mathlib.Omega.{arith}
 use native.Mathlib.Numerals.{add-one}
 use lib.Dec.{ltb, eqb}
 use lib.ListN.{length, take, drop}
-use Rattle.std.proofs.shelf.Tests.{cases-eq, cases-bool, cases-lt, eq-eqb, ne-eqb}
-use Rattle.std.proofs.shelf.Lists.{length-push, length-take}
+use Rattle.std.proofs.shelf.Tests.{cases-eq, cases-bool, eq-eqb, ne-eqb, false≢true}
+use Rattle.std.proofs.shelf.Lists.{length-push}
 use Rattle.std.proofs.shelf.Maps.{nth-past}
 use Rattle.std.specs.Options.{isSome, mapped}
 use Rattle.std.specs.shelf.Maps.{nth}
@@ -21,8 +21,9 @@ use Rattle.image.specs.declared.refusal.ImageRefusal.{ImageRefusal}
 use Rattle.image.specs.declared.refusal.ImageRefusal.the-variants.{LeftOver}
 use Rattle.image.specs.Segments.{Segment}
 use Rattle.image.specs.Reading.{Split, last-segment, before-it, followed, walk}
-use Rattle.image.specs.Views.{picked}
-use Rattle.image.proofs.Splits.{apart, taken-whole}
+use Rattle.std.specs.Results.{isOk}
+use Rattle.image.specs.Views.{picked, accepted}
+use Rattle.image.proofs.Splits.{apart}
 
 abbrev Read : Type 0
 Read = Result (List Segment) ImageRefusal
@@ -54,6 +55,12 @@ walk-length zero limit bytes segments h = at (eqb (length bytes) 0) h where
 walk-length (suc i) limit bytes segments h =
     let s = step i limit bytes segments h in
     ap length (s .is) ∙ length-push (s .front) (s .split .segment) ∙ add-one (length (s .front)) ∙ ap suc (walk-length i _ _ (s .front) (s .before))
+
+pub accepted-length : (k limit : ℕ) (bytes : List ℕ) → isOk (walk k limit bytes) ≡ true → k ≡ length (accepted (walk k limit bytes))
+accepted-length k limit bytes h = at (walk k limit bytes) refl h where
+  at : (r : Read) → walk k limit bytes ≡ r → isOk r ≡ true → k ≡ length (accepted r)
+  at (Ok segments) e ok = sym (walk-length k limit bytes segments e)
+  at (Err x) e ok = absurd (false≢true ok)
 
 -- what stands at i, once one segment more stands at the end
 nth-push : (xs : List Segment) (x : Segment) (i : ℕ) → (length xs ≡ i → ⊥) → nth (xs ++ (x ∷ [])) i ≡ nth xs i
@@ -141,8 +148,3 @@ module _ (found : Option Segment) (left w limit : ℕ) (bytes : List ℕ) (answe
   left-over none some =
       let z : left ≡ 0 = omega arith in
       sym (a ∙ ap (λ n. merged found w (walk n limit bytes)) z ∙ merged-left found w limit bytes (λ e. omega arith))
-
-pub shorter : (i limit n : ℕ) (bytes : List ℕ) (s : Split) → Ok s ≡ last-segment i limit bytes → length bytes ≤ n → length (s .before) ≤ n
-shorter i limit n bytes s e h =
-    let cut = ap (λ x. length (x .before)) (taken-whole i limit bytes s (sym e) .1) in
-    subst (λ m. m ≤ n) cut (simp length-take (omega arith))

@@ -12,12 +12,12 @@ pub enum ImageRefusal {
     Trailer {
         segments: u32,
         back: u32,
-        before: u32,
+        before: usize,
     },
     // Fewer than 8 bytes are left for a segment.
     Cut {
         segment: u32,
-        left: u32,
+        left: usize,
     },
     // A segment's count is 0.
     Empty {
@@ -27,7 +27,7 @@ pub enum ImageRefusal {
     Beyond {
         segment: u32,
         count: u32,
-        left: u32,
+        left: usize,
     },
     // A segment passes the first number of the next one, or the memory's size.
     Overlap {
@@ -37,5 +37,5 @@ pub enum ImageRefusal {
         limit: u32,
     },
     // Bytes of segments are left over before the first one.
-    LeftOver(u32),
+    LeftOver(usize),
 }

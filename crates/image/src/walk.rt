@@ -1,7 +1,5 @@
 // The walk over the segments of an image, from the last to the first.
 ghost use mathlib.Core.Path.{_≡_};
-ghost use Prim.Native.Nat.{_≤_};
-ghost use lib.ListN.{length};
 ghost use Rattle.image.specs.Reading.{last-segment, walk as walk-of};
 ghost use Rattle.image.specs.Views.{split-of, picked, part-of};
 use crate::number::number_at;
@@ -14,14 +12,13 @@ fn last_segment(
     limit: u32,
     segment: u32,
 ) -> Result<(&[u8], ImagePart<'_>), ImageRefusal>
-    requires { ⌜ length (now body) ≤ 65536 ⌝ }
     ensures { λ r. ⌜ split-of r ≡ last-segment segment limit (now (body .entry)) ⌝ }
 {
     let length = body.len();
     if length < 8 {
         return Err(ImageRefusal::Cut {
             segment,
-            left: length as u32,
+            left: length,
         });
     }
     let left = length - 8;
@@ -34,7 +31,7 @@ fn last_segment(
         return Err(ImageRefusal::Beyond {
             segment,
             count,
-            left: left as u32,
+            left,
         });
     }
     if first as u64 + count as u64 > limit as u64 {
@@ -57,7 +54,6 @@ pub(crate) fn walk(
     size: u32,
     wanted: u32,
 ) -> Result<Option<ImagePart<'_>>, ImageRefusal>
-    requires { ⌜ length (now body) ≤ 65536 ⌝ }
     ensures { λ r. ⌜ part-of r ≡ picked wanted (walk-of count size (now (body .entry))) ⌝ }
 {
     let mut rest = body;
@@ -74,7 +70,7 @@ pub(crate) fn walk(
         rest = before;
     }
     if rest.len() > 0 {
-        return Err(ImageRefusal::LeftOver(rest.len() as u32));
+        return Err(ImageRefusal::LeftOver(rest.len()));
     }
     Ok(found)
 }

@@ -1,7 +1,6 @@
 use mathlib.Core.Path.{_≡_}
 use mathlib.Core.Bool.{true}
 use Prim.Native.Nat.{_≤_}
-use lib.ListN.{length}
 use Rattle.std.specs.Options.{isSome, mapped}
 use Rattle.image.specs.Reading.{walk}
 use Rattle.image.specs.Views.{picked, segment-of}
@@ -10,8 +9,7 @@ use Rattle.image.proofs.walk.walk.Given as given
 
 abbrev pub Inv-loop-left : given.InvT-loop-left
 Inv-loop-left l =
-    (length (l .rest) ≤ 65536)
-    × (picked (l .wanted) (walk (l .count) (l .size) (l .body)) ≡ merged (mapped segment-of (l .found)) (l .wanted) (walk (l .left) (l .limit) (l .rest)))
+    (picked (l .wanted) (walk (l .count) (l .size) (l .body)) ≡ merged (mapped segment-of (l .found)) (l .wanted) (walk (l .left) (l .limit) (l .rest)))
     × (isSome (mapped segment-of (l .found)) ≡ true → l .left ≤ l .wanted)
 
 abbrev pub μ-loop-left : given.MeasureT-loop-left
