@@ -1,3 +1,4 @@
 pub mod Numbers
+pub mod Segments
 pub mod Splits
 pub mod Walks
