@@ -1,3 +1,4 @@
+pub mod Accepting
 pub mod Numbers
 pub mod Segments
 pub mod Splits

@@ -139,6 +139,6 @@ module _ (limit : ℕ) (bytes : List ℕ) (small : All (λ b. b < 256) bytes) (w
   taken-written =
       sym (take-append-drop start bytes)
       ∙ ap (λ xs. take start bytes ++ xs) (
-        sym (take-append-drop (4 * count-of bytes) (drop start bytes))
-        ∙ ap (λ xs. xs ++ drop (4 * count-of bytes) (drop start bytes)) (sym values-written)
-        ∙ ap (λ xs. joined number-bytes (words-of held) ++ xs) (rest-written ∙ ap (λ n. number-bytes (first-of bytes) ++ number-bytes n) (sym taken-count)))
+      sym (take-append-drop (4 * count-of bytes) (drop start bytes))
+      ∙ ap (λ xs. xs ++ drop (4 * count-of bytes) (drop start bytes)) (sym values-written)
+      ∙ ap (λ xs. joined number-bytes (words-of held) ++ xs) (rest-written ∙ ap (λ n. number-bytes (first-of bytes) ++ number-bytes n) (sym taken-count)))

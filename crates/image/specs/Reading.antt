@@ -61,15 +61,24 @@ abbrev pub walk : ℕ → ℕ → List ℕ → Result (List Segment) ImageRefusa
 walk zero limit bytes = cond (eqb (length bytes) 0) (Ok []) (Err (LeftOver (length bytes)))
 walk (suc i) limit bytes = before-it (λ next rest. walk i next rest) (last-segment i limit bytes)
 
--- the trailer is the last 12 bytes: the mark, the number of segments, and back, the bytes of all segments, which stand before it
+-- the trailer is the last 12 bytes: the mark, the number of segments, and back, the number of bytes of all segments
+abbrev pub mark-of : List ℕ → ℕ
+mark-of bytes = number-at bytes (length bytes - 12)
+
+abbrev pub number-of-segments : List ℕ → ℕ
+number-of-segments bytes = number-at bytes (length bytes - 8)
+
+abbrev pub back-of : List ℕ → ℕ
+back-of bytes = number-at bytes (length bytes - 4)
+
+-- the bytes of all segments, which stand before the trailer
+abbrev pub body-of : List ℕ → List ℕ
+body-of bytes = take (back-of bytes) (drop (length bytes - 12 - back-of bytes) bytes)
+
+-- the segments of the image at the end of the bytes, for a memory of the size
 abbrev pub reading : ℕ → List ℕ → Result (List Segment) ImageRefusal
 reading size bytes =
-    let n = length bytes in
-    let before = n - 12 in
-    let found = number-at bytes before in
-    let segments = number-at bytes (before + 4) in
-    let back = number-at bytes (before + 8) in
-    cond (ltb n 12 || ltb 65536 n) (Err (Length n))
-    (cond (not (eqb found mark)) (Err (Mark found))
-    (cond (ltb 64 segments || ltb before back) (Err (Trailer segments back before))
-    (walk segments size (take back (drop (before - back) bytes)))))
+    cond (ltb (length bytes) 12 || ltb 65536 (length bytes)) (Err (Length (length bytes)))
+    (cond (not (eqb (mark-of bytes) mark)) (Err (Mark (mark-of bytes)))
+    (cond (ltb 64 (number-of-segments bytes) || ltb (length bytes - 12) (back-of bytes)) (Err (Trailer (number-of-segments bytes) (back-of bytes) (length bytes - 12)))
+    (walk (number-of-segments bytes) size (body-of bytes))))

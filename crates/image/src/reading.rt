@@ -14,7 +14,15 @@ use crate::walk::walk;
 const MARK: u32 = 0x53524349;
 
 // Reads the image at the end of `bytes`, for a memory of `size` words. What stands before the image is ignored.
+// With the answer comes that it accepts exactly what is written.
 pub fn read(bytes: &[u8], size: u32) -> Result<Image<'_>, ImageRefusal>
+    ensures answer { λ r. ⌜ told r ≡ reading size (now (bytes .entry)) ⌝ }
+    ensures accepts { λ r. ⌜ ((segments : List Segment) → Accepts-exactly (told r) size (now (bytes .entry)) segments) ⌝ }
+{
+    opened(bytes, size)
+}
+
+fn opened(bytes: &[u8], size: u32) -> Result<Image<'_>, ImageRefusal>
     ensures { λ r. ⌜ told r ≡ reading size (now (bytes .entry)) ⌝ }
 {
     let length = bytes.len();
@@ -26,8 +34,8 @@ pub fn read(bytes: &[u8], size: u32) -> Result<Image<'_>, ImageRefusal>
     if found != MARK {
         return Err(ImageRefusal::Mark(found));
     }
-    let segments = number_at(bytes, before + 4);
-    let back = number_at(bytes, before + 8);
+    let segments = number_at(bytes, length - 8);
+    let back = number_at(bytes, length - 4);
     if segments > 64 || back as usize > before {
         return Err(ImageRefusal::Trailer {
             segments,
