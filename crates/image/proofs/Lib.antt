@@ -1,4 +1,5 @@
 pub mod Accepting
+pub mod Loading
 pub mod Numbers
 pub mod Segments
 pub mod Splits
