@@ -1,0 +1,6 @@
+use mathlib.Core.Path.{sym}
+use Rattle.image.proofs.Numbers.{length-words}
+use Rattle.image.proofs.part.ImagePart.count.Needs as need
+
+pub returns : need.returns
+returns c = sym (length-words (c .args .self .now .words .now))

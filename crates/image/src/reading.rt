@@ -1,0 +1,54 @@
+// Reading an image from bytes.
+ghost use mathlib.Core.Path.{_≡_};
+ghost use mathlib.Core.List.{List};
+ghost use Rattle.image.specs.Accepting.{Accepts-exactly};
+ghost use Rattle.image.specs.Reading.{reading};
+ghost use Rattle.image.specs.Segments.{Segment};
+ghost use Rattle.image.specs.Views.{told};
+use crate::image::Image;
+use crate::number::number_at;
+use crate::refusal::ImageRefusal;
+use crate::walk::walk;
+
+// 53h 52h 43h 49h, with which the trailer begins.
+const MARK: u32 = 0x53524349;
+
+// Reads the image at the end of `bytes`, for a memory of `size` words. What stands before the image is ignored.
+// With the answer comes that it accepts exactly what is written.
+pub fn read(bytes: &[u8], size: u32) -> Result<Image<'_>, ImageRefusal>
+    ensures answer { λ r. ⌜ told r ≡ reading size (now (bytes .entry)) ⌝ }
+    ensures accepts { λ r. ⌜ ((segments : List Segment) → Accepts-exactly (told r) size (now (bytes .entry)) segments) ⌝ }
+{
+    opened(bytes, size)
+}
+
+fn opened(bytes: &[u8], size: u32) -> Result<Image<'_>, ImageRefusal>
+    ensures { λ r. ⌜ told r ≡ reading size (now (bytes .entry)) ⌝ }
+{
+    let length = bytes.len();
+    if length < 12 || length > 65_536 {
+        return Err(ImageRefusal::Length(length));
+    }
+    let before = length - 12;
+    let found = number_at(bytes, before);
+    if found != MARK {
+        return Err(ImageRefusal::Mark(found));
+    }
+    let segments = number_at(bytes, length - 8);
+    let back = number_at(bytes, length - 4);
+    if segments > 64 || back as usize > before {
+        return Err(ImageRefusal::Trailer {
+            segments,
+            back,
+            before,
+        });
+    }
+    let body = &bytes[before - back as usize..before];
+    // The walk decides; the segment that it finds is not needed here.
+    let _ = walk(body, segments, size, 0)?;
+    Ok(Image {
+        body,
+        count: segments,
+        size,
+    })
+}
