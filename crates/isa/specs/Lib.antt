@@ -7,3 +7,4 @@ pub mod Addresses
 pub mod Instructions
 pub mod Lines
 pub mod Encoding
+pub mod Listing

@@ -1,6 +1,7 @@
 // Instruction words of 32 bits: their fields, what each says, its line of text, and the book machine that does them.
 mod addressing;
 mod decoder;
+mod entry;
 mod fields;
 mod instruction;
 mod line;
@@ -14,6 +15,8 @@ pub use addressing::c1_word;
 pub use addressing::c2_word;
 pub use addressing::condition;
 pub use decoder::decode;
+pub use entry::Entry;
+pub use entry::EntryDisplay;
 pub use instruction::Instruction;
 pub use line::Hex;
 pub use line::HexDisplay;
