@@ -7,6 +7,7 @@ use denote.Ref.{now}
 use lib.ListN.{length, getD, take, length-take}
 use Rattle.memory.specs.Memory.{cut, wrap, Laws}
 use Rattle.memory.specs.WordMemory.{word-words, word-delay}
+use Rattle.memory.specs.ByteMemory.{packed, byte-words, byte-delay}
 
 cut-few : (ws : List ℕ) → length (cut ws) ≤ 8192
 cut-few ws = omega (arith, length-take 8192 ws)
@@ -25,11 +26,19 @@ take-fits (suc m) [] h n = omega arith
 take-fits (suc m) (w ∷ ws) h zero = h 0
 take-fits (suc m) (w ∷ ws) h (suc n) = take-fits m ws (λ k. h (suc k)) n
 
-pub word-laws : Laws word-words word-delay
-unfolding word-words
-word-laws = record {
-  few = λ s. cut-few (map wrap (now (s .words)));
-  fits = λ s. take-fits 8192 _ (map-fits wrap wrap-fits (now (s .words)));
+-- the laws of some words that are cut and wrapped, with no delays
+flat-laws : {S : Type 0} (list : S → List ℕ) → Laws (λ s. cut (map wrap (list s))) (λ _ _. 0)
+flat-laws list = record {
+  few = λ s. cut-few (map wrap (list s));
+  fits = λ s. take-fits 8192 _ (map-fits wrap wrap-fits (list s));
   short = λ s n. omega arith;
   past = λ s n h. refl;
 }
+
+pub word-laws : Laws word-words word-delay
+unfolding word-words
+word-laws = flat-laws (λ s. now (s .words))
+
+pub byte-laws : Laws byte-words byte-delay
+unfolding byte-words
+byte-laws = flat-laws (λ s. packed (now (s .bytes)))

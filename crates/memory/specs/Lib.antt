@@ -1,3 +1,4 @@
 pub mod Memory
 pub mod WordMemory
+pub mod ByteMemory
 pub mod Lawful

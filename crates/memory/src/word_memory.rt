@@ -1,6 +1,6 @@
 // A memory over the caller's list of words.
 ghost use mathlib.Core.Path.{_≡_};
-ghost use Prim.Native.Nat.{_<_};
+ghost use Prim.Native.Nat.{_<_, _≤_};
 ghost use denote.Ref.{name};
 ghost use lib.ListN.{length, getD, set};
 ghost use Rattle.memory.specs.Memory.{cut, loan-of};
@@ -39,20 +39,23 @@ impl<'a> WordMemory<'a> {
     }
 
     fn count(&self) -> u32
-        ensures { λ r. ⌜ r ≡ length (word-words (now (self .entry))) ⌝ }
+        ensures size { λ r. ⌜ r ≡ length (word-words (now (self .entry))) ⌝ }
+        ensures within { λ r. ⌜ r ≤ length (now (now (self .entry) .words)) ⌝ }
     {
         capped(self.words.len())
     }
 
     fn word(&self, number: u32) -> u32
-        requires { ⌜ number < length (word-words (now self)) ⌝ }
+        requires there { ⌜ number < length (word-words (now self)) ⌝ }
+        requires within { ⌜ number < length (now (now self .words)) ⌝ }
         ensures { λ r. ⌜ r ≡ getD (word-words (now (self .entry))) number 0 ⌝ }
     {
         fitting(self.words[number as usize])
     }
 
     fn put(&mut self, number: u32, value: u32)
-        requires { ⌜ number < length (word-words (now self)) ⌝ }
+        requires there { ⌜ number < length (word-words (now self)) ⌝ }
+        requires within { ⌜ number < length (now (now self .words)) ⌝ }
         ensures words { λ _. ⌜ word-words (now (self .exit)) ≡ set (word-words (now (self .entry))) number value ⌝ }
         ensures frame { λ _. ⌜ word-frame (now (self .exit)) ≡ word-frame (now (self .entry)) ⌝ }
     {

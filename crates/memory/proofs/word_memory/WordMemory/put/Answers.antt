@@ -3,14 +3,9 @@ use mathlib.Core.List.{List, [], _∷_}
 use Prim.Native.Nat.{ℕ}
 use native.Mathlib.Omega.{arith}
 use Rattle.std.proofs.shelf.Lists.{drop-set-lt}
-use Rattle.memory.specs.Memory.{Loan}
 use Rattle.memory.specs.WordMemory.{word-words, word-frame}
 use Rattle.memory.proofs.Lists.{words-length, words-set}
 use Rattle.memory.proofs.word_memory.WordMemory.put.Needs as need
-
-pub index-self-number : need.index-self-number
-unfolding word-words
-index-self-number c = omega (arith, words-length (c .args .self .now .words .now), c .pre)
 
 pub returns : need.returns
 unfolding word-words word-frame
@@ -19,5 +14,5 @@ returns c =
     let h = words-length ws in
     record {
       words = words-set ws _ (c .args .value) (omega arith);
-      frame = ap (λ (l : List ℕ). record { loan = c .args .self .now .words .name; rest = l } ∷ []) (drop-set-lt 8192 ws _ _ (omega (arith, c .pre)));
+      frame = ap (λ (l : List ℕ). record { loan = c .args .self .now .words .name; rest = l } ∷ []) (drop-set-lt 8192 ws _ _ (omega (arith, c .pre .there)));
     }
