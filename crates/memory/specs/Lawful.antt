@@ -3,11 +3,17 @@ use mathlib.Core.Path.{_≡_, refl}
 use mathlib.Core.List.{List, [], _∷_, _++_, map}
 use Prim.Native.Nat.{ℕ, zero, suc, _^_, _≤_, _<_}
 use native.Mathlib.Omega.{arith}
+use lib.Dec.{ltb}
 use denote.Ref.{now}
 use lib.ListN.{length, getD, take, length-take}
+use Rattle.std.proofs.shelf.Tests.{le-ltb, cond-false, cond-both}
 use Rattle.memory.specs.Memory.{cut, wrap, Laws}
 use Rattle.memory.specs.WordMemory.{word-words, word-delay}
 use Rattle.memory.specs.ByteMemory.{packed, byte-words, byte-delay}
+use Rattle.memory.specs.Delays.{slower}
+use Rattle.memory.specs.SlowStretch.{in-stretch, slow-words, slow-delay}
+use Rattle.memory.specs.OpenRow.{off-row, row-words, row-delay}
+use Rattle.memory.specs.declared.memory.Memory.{Ghosts}
 
 cut-few : (ws : List ℕ) → length (cut ws) ≤ 8192
 cut-few ws = omega (arith, length-take 8192 ws)
@@ -42,3 +48,19 @@ word-laws = flat-laws (λ s. now (s .words))
 pub byte-laws : Laws byte-words byte-delay
 unfolding byte-words
 byte-laws = flat-laws (λ s. packed (now (s .bytes)))
+
+-- the laws of a memory's words with some delays added
+module _ {S M : Type 0} (memory : Ghosts M) (below : S → M) (more : S → ℕ → ℕ) where
+  slower-laws : Laws (λ s. memory .words (below s)) (λ s. slower (memory .words (below s)) (memory .delay (below s)) (more s))
+  slower-laws = record {
+    few = λ s. memory .laws .few (below s);
+    fits = λ s. memory .laws .fits (below s);
+    short = λ s n. cond-both (ltb n (length (memory .words (below s)))) _ 0 (λ x. x ≤ 255) (λ e. omega arith) (λ e. omega arith);
+    past = λ s n h. cond-false (ltb n (length (memory .words (below s)))) _ _ (le-ltb n _ h);
+  }
+
+pub slow-laws : {M : Type 0} (below : Ghosts M) → Laws (slow-words below) (slow-delay below)
+slow-laws below = slower-laws below (λ s. s .below) (λ s. in-stretch (s .first) (s .length) (s .extra))
+
+pub row-laws : {M : Type 0} (below : Ghosts M) → Laws (row-words below) (row-delay below)
+row-laws below = slower-laws below (λ s. s .below) (λ s. off-row (s .extra) (s .row))
