@@ -13,6 +13,7 @@ use Rattle.memory.specs.ByteMemory.{packed, byte-words, byte-delay}
 use Rattle.memory.specs.Delays.{slower}
 use Rattle.memory.specs.SlowStretch.{in-stretch, slow-words, slow-delay}
 use Rattle.memory.specs.OpenRow.{off-row, row-words, row-delay}
+use Rattle.memory.specs.Pair.{joined, pair-words, pair-delay}
 use Rattle.memory.specs.declared.memory.Memory.{Ghosts}
 
 cut-few : (ws : List ℕ) → length (cut ws) ≤ 8192
@@ -31,6 +32,11 @@ take-fits zero ws h n = omega arith
 take-fits (suc m) [] h n = omega arith
 take-fits (suc m) (w ∷ ws) h zero = h 0
 take-fits (suc m) (w ∷ ws) h (suc n) = take-fits m ws (λ k. h (suc k)) n
+
+append-fits : (xs ys : List ℕ) → ((n : ℕ) → getD xs n 0 < 2 ^ 32) → ((n : ℕ) → getD ys n 0 < 2 ^ 32) → (n : ℕ) → getD (xs ++ ys) n 0 < 2 ^ 32
+append-fits [] ys g h n = h n
+append-fits (x ∷ xs) ys g h zero = g 0
+append-fits (x ∷ xs) ys g h (suc n) = append-fits xs ys (λ k. g (suc k)) h n
 
 -- the laws of some words that are cut and wrapped, with no delays
 flat-laws : {S : Type 0} (list : S → List ℕ) → Laws (λ s. cut (map wrap (list s))) (λ _ _. 0)
@@ -64,3 +70,14 @@ slow-laws below = slower-laws below (λ s. s .below) (λ s. in-stretch (s .first
 
 pub row-laws : {M : Type 0} (below : Ghosts M) → Laws (row-words below) (row-delay below)
 row-laws below = slower-laws below (λ s. s .below) (λ s. off-row (s .extra) (s .row))
+
+pub pair-laws : {A B : Type 0} (first : Ghosts A) (second : Ghosts B) → Laws (pair-words first second) (pair-delay first second)
+unfolding joined
+pair-laws first second = record {
+  few = λ s. cut-few (first .words (s .first) ++ second .words (s .second));
+  fits = λ s. take-fits 8192 _ (append-fits _ _ (first .laws .fits (s .first)) (second .laws .fits (s .second)));
+  short = λ s n. cond-both (ltb n (length (pair-words first second s))) _ 0 (λ x. x ≤ 255)
+      (λ e. cond-both (ltb n (length (first .words (s .first)))) _ _ (λ x. x ≤ 255) (λ f. first .laws .short (s .first) n) (λ f. second .laws .short (s .second) _))
+      (λ e. omega arith);
+  past = λ s n h. cond-false (ltb n (length (pair-words first second s))) _ _ (le-ltb n _ h);
+}

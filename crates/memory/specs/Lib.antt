@@ -4,4 +4,5 @@ pub mod ByteMemory
 pub mod Delays
 pub mod SlowStretch
 pub mod OpenRow
+pub mod Pair
 pub mod Lawful

@@ -48,6 +48,12 @@ pub record Laws {S : Type 0} (words : S → List ℕ) (delay : S → ℕ → ℕ
 
 -- what a call promises: s is the memory as it begins, t as it ends, and r the answer
 module _ {S : Type 0} (words : S → List ℕ) (delay : S → ℕ → ℕ) (frame : S → List Loan) where
+  -- nothing that the memory means is changed
+  pub record Same (s t : S) : Type 0 where
+    pub words-kept : words t ≡ words s
+    pub delay-kept : delay t ≡ delay s
+    pub frame-kept : frame t ≡ frame s
+
   -- a question, whose right answer is a, changes nothing
   pub record Asked (s : S) (a r : ℕ) (t : S) : Type 0 where
     pub answer : r ≡ a

@@ -2,6 +2,7 @@
 mod byte_memory;
 mod memory;
 mod open_row;
+mod pair;
 mod slow_stretch;
 mod word_memory;
 
@@ -11,6 +12,8 @@ pub use memory::Memory;
 pub use memory::MemoryFault;
 pub use open_row::OpenRow;
 pub use open_row::OpenRowMemory;
+pub use pair::Pair;
+pub use pair::PairMemory;
 pub use slow_stretch::SlowStretch;
 pub use slow_stretch::SlowStretchMemory;
 pub use word_memory::WordMemory;
