@@ -24,6 +24,10 @@ off-row extra row n = cond (in-row row n) 0 extra
 abbrev pub row-after : List ℕ → Option ℕ → ℕ → Option ℕ
 row-after ws row n = cond (ltb n (length ws)) (Some (n / 64)) row
 
+-- the layer over m, with another row open
+abbrev pub row-over : {M : Type 0} → OpenRow M → M → Option ℕ → OpenRow M
+row-over s m row = record { below = m; extra = s .extra; row = row }
+
 module _ {M : Type 0} (below : Ghosts M) where
   -- the words are those of the memory below
   abbrev pub row-words : OpenRow M → List ℕ

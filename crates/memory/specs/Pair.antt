@@ -1,10 +1,10 @@
 -- What a pair of memories means. Assumes nothing.
 use mathlib.Core.List.{List, _++_}
 use mathlib.Core.Bool.{cond}
-use Prim.Native.Nat.{ℕ, _-_}
+use Prim.Native.Nat.{ℕ, _-_, _≤_, _<_}
 use lib.Dec.{ltb}
 use lib.ListN.{length}
-use Rattle.memory.specs.Memory.{cut, Loan}
+use Rattle.memory.specs.Memory.{cut, Loan, Same}
 use Rattle.memory.specs.declared.memory.Memory.{Ghosts}
 use Rattle.memory.specs.declared.pair.Pair.{Pair}
 
@@ -26,3 +26,12 @@ module _ {A B : Type 0} (first : Ghosts A) (second : Ghosts B) where
   -- what is lent to the first, then what is lent to the second
   abbrev pub pair-frame : Pair A B → List Loan
   pair-frame s = first .frame (s .first) ++ second .frame (s .second)
+
+  -- what is known of the parts after a read or write of word number n, from s to t: the part that has the word gives
+  -- the answer (P of the first, Q of the second at its own number), and a part without it means what it meant
+  pub record Reached (s t : Pair A B) (n : ℕ) (P : Type 0) (Q : ℕ → Type 0) : Type 0 where
+    pub in-first : n < length (first .words (s .first)) → P
+    pub in-second : length (first .words (s .first)) ≤ n → n < length (pair-words s) → Q (n - length (first .words (s .first)))
+    pub first-kept : length (first .words (s .first)) ≤ n → Same (first .words) (first .delay) (first .frame) (s .first) (t .first)
+    pub second-kept : n < length (first .words (s .first)) → Same (second .words) (second .delay) (second .frame) (s .second) (t .second)
+    pub refused-kept : length (pair-words s) ≤ n → Same (second .words) (second .delay) (second .frame) (s .second) (t .second)

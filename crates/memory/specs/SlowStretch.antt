@@ -12,6 +12,10 @@ use Rattle.memory.specs.declared.slow_stretch.SlowStretch.{SlowStretch}
 abbrev pub in-stretch : ℕ → ℕ → ℕ → ℕ → ℕ
 in-stretch first many extra n = cond (leb first n && ltb n (first + many)) extra 0
 
+-- the same stretch over m
+abbrev pub slow-over : {M : Type 0} → SlowStretch M → M → SlowStretch M
+slow-over s m = record { below = m; first = s .first; length = s .length; extra = s .extra }
+
 module _ {M : Type 0} (below : Ghosts M) where
   -- the words are those of the memory below
   abbrev pub slow-words : SlowStretch M → List ℕ

@@ -6,7 +6,7 @@ ghost use lib.ListN.{length};
 ghost use Rattle.memory.specs.Memory.{Loan, Laws, Asked, Read, Written};
 
 /// At most this many words are in a memory.
-pub(crate) const MOST_WORDS: usize = 8192;
+pub(crate) const MOST_WORDS: u32 = 8192;
 
 /// The refusal of a word number that is not below the memory's size.
 #[derive(Clone, Copy)]
@@ -49,9 +49,9 @@ pub trait Memory {
 pub(crate) fn capped(count: usize) -> u32
     ensures { λ r. ⌜ r ≡ min 8192 count ⌝ }
 {
-    if count < MOST_WORDS {
+    if count < MOST_WORDS as usize {
         count as u32
     } else {
-        8192
+        MOST_WORDS
     }
 }

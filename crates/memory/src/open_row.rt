@@ -3,7 +3,7 @@ ghost use mathlib.Core.Path.{_≡_};
 ghost use Rattle.std.specs.declared.option.Option.the-variants.{None};
 ghost use Rattle.memory.specs.Delays.{slower};
 ghost use Rattle.memory.specs.Memory.{Read, Written};
-ghost use Rattle.memory.specs.OpenRow.{off-row, row-after, row-words, row-delay, row-frame};
+ghost use Rattle.memory.specs.OpenRow.{off-row, row-after, row-over, row-words, row-delay, row-frame};
 ghost use Rattle.memory.specs.Lawful.{row-laws};
 use crate::memory::Memory;
 use crate::memory::MemoryFault;
@@ -78,7 +78,7 @@ pub impl<M: Memory> Memory for OpenRow<M> as OpenRowMemory {
     fn read(&mut self, number: u32) -> Result<u32, MemoryFault>
         ensures memory { λ r. ⌜ Read (row-words M·Memory) (row-delay M·Memory) (row-frame M·Memory) (now (self .entry)) number r (now (self .exit)) ⌝ }
         ensures below { λ r. ⌜ Read (M·Memory .words) (M·Memory .delay) (M·Memory .frame) (now (self .entry) .below) number r (now (self .exit) .below) ⌝ }
-        ensures row { λ _. ⌜ now (self .exit) ≡ record { below = now (self .exit) .below; extra = now (self .entry) .extra; row = row-after (M·Memory .words (now (self .entry) .below)) (now (self .entry) .row) number } ⌝ }
+        ensures row { λ _. ⌜ now (self .exit) ≡ row-over (now (self .entry)) (now (self .exit) .below) (row-after (M·Memory .words (now (self .entry) .below)) (now (self .entry) .row) number) ⌝ }
     {
         let word = self.below.read(number)?;
         self.row = Some(number / ROW_WORDS);
@@ -88,7 +88,7 @@ pub impl<M: Memory> Memory for OpenRow<M> as OpenRowMemory {
     fn write(&mut self, number: u32, value: u32) -> Result<(), MemoryFault>
         ensures memory { λ r. ⌜ Written (row-words M·Memory) (row-delay M·Memory) (row-frame M·Memory) (now (self .entry)) number value r (now (self .exit)) ⌝ }
         ensures below { λ r. ⌜ Written (M·Memory .words) (M·Memory .delay) (M·Memory .frame) (now (self .entry) .below) number value r (now (self .exit) .below) ⌝ }
-        ensures row { λ _. ⌜ now (self .exit) ≡ record { below = now (self .exit) .below; extra = now (self .entry) .extra; row = row-after (M·Memory .words (now (self .entry) .below)) (now (self .entry) .row) number } ⌝ }
+        ensures row { λ _. ⌜ now (self .exit) ≡ row-over (now (self .entry)) (now (self .exit) .below) (row-after (M·Memory .words (now (self .entry) .below)) (now (self .entry) .row) number) ⌝ }
     {
         self.below.write(number, value)?;
         self.row = Some(number / ROW_WORDS);

@@ -3,7 +3,7 @@ ghost use mathlib.Core.Path.{_≡_};
 ghost use mathlib.Core.List.{_++_};
 ghost use lib.ListN.{length};
 ghost use Rattle.memory.specs.Memory.{Same, Read, Written};
-ghost use Rattle.memory.specs.Pair.{joined, joined-delay, pair-words, pair-delay, pair-frame};
+ghost use Rattle.memory.specs.Pair.{joined, joined-delay, pair-words, pair-delay, pair-frame, Reached};
 ghost use Rattle.memory.specs.Lawful.{pair-laws};
 use crate::memory::MOST_WORDS;
 use crate::memory::Memory;
@@ -43,7 +43,7 @@ impl<A: Memory, B: Memory> Pair<A, B> {
     {
         let front = self.first.size();
         let back = self.second.size();
-        (front, (front + back).min(8192))
+        (front, (front + back).min(MOST_WORDS))
     }
 }
 
@@ -72,7 +72,10 @@ pub impl<A: Memory, B: Memory> Memory for Pair<A, B> as PairMemory {
         }
     }
 
-    fn read(&mut self, number: u32) -> Result<u32, MemoryFault> {
+    fn read(&mut self, number: u32) -> Result<u32, MemoryFault>
+        ensures memory { λ r. ⌜ Read (pair-words A·Memory B·Memory) (pair-delay A·Memory B·Memory) (pair-frame A·Memory B·Memory) (now (self .entry)) number r (now (self .exit)) ⌝ }
+        ensures parts { λ r. ⌜ Reached A·Memory B·Memory (now (self .entry)) (now (self .exit)) number (Read (A·Memory .words) (A·Memory .delay) (A·Memory .frame) (now (self .entry) .first) number r (now (self .exit) .first)) (λ n. Read (B·Memory .words) (B·Memory .delay) (B·Memory .frame) (now (self .entry) .second) n r (now (self .exit) .second)) ⌝ }
+    {
         let (front, size) = self.sizes();
         if number >= size {
             Err(MemoryFault { number, size })
@@ -83,7 +86,10 @@ pub impl<A: Memory, B: Memory> Memory for Pair<A, B> as PairMemory {
         }
     }
 
-    fn write(&mut self, number: u32, value: u32) -> Result<(), MemoryFault> {
+    fn write(&mut self, number: u32, value: u32) -> Result<(), MemoryFault>
+        ensures memory { λ r. ⌜ Written (pair-words A·Memory B·Memory) (pair-delay A·Memory B·Memory) (pair-frame A·Memory B·Memory) (now (self .entry)) number value r (now (self .exit)) ⌝ }
+        ensures parts { λ r. ⌜ Reached A·Memory B·Memory (now (self .entry)) (now (self .exit)) number (Written (A·Memory .words) (A·Memory .delay) (A·Memory .frame) (now (self .entry) .first) number value r (now (self .exit) .first)) (λ n. Written (B·Memory .words) (B·Memory .delay) (B·Memory .frame) (now (self .entry) .second) n value r (now (self .exit) .second)) ⌝ }
+    {
         let (front, size) = self.sizes();
         if number >= size {
             Err(MemoryFault { number, size })

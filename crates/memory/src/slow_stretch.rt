@@ -2,7 +2,7 @@
 ghost use mathlib.Core.Path.{_≡_};
 ghost use Rattle.memory.specs.Delays.{slower};
 ghost use Rattle.memory.specs.Memory.{Read, Written};
-ghost use Rattle.memory.specs.SlowStretch.{in-stretch, slow-words, slow-delay, slow-frame};
+ghost use Rattle.memory.specs.SlowStretch.{in-stretch, slow-over, slow-words, slow-delay, slow-frame};
 ghost use Rattle.memory.specs.Lawful.{slow-laws};
 use crate::memory::Memory;
 use crate::memory::MemoryFault;
@@ -79,7 +79,7 @@ pub impl<M: Memory> Memory for SlowStretch<M> as SlowStretchMemory {
     fn read(&mut self, number: u32) -> Result<u32, MemoryFault>
         ensures memory { λ r. ⌜ Read (slow-words M·Memory) (slow-delay M·Memory) (slow-frame M·Memory) (now (self .entry)) number r (now (self .exit)) ⌝ }
         ensures below { λ r. ⌜ Read (M·Memory .words) (M·Memory .delay) (M·Memory .frame) (now (self .entry) .below) number r (now (self .exit) .below) ⌝ }
-        ensures stretch { λ _. ⌜ now (self .exit) ≡ record { below = now (self .exit) .below; first = now (self .entry) .first; length = now (self .entry) .length; extra = now (self .entry) .extra } ⌝ }
+        ensures stretch { λ _. ⌜ now (self .exit) ≡ slow-over (now (self .entry)) (now (self .exit) .below) ⌝ }
     {
         self.below.read(number)
     }
@@ -87,7 +87,7 @@ pub impl<M: Memory> Memory for SlowStretch<M> as SlowStretchMemory {
     fn write(&mut self, number: u32, value: u32) -> Result<(), MemoryFault>
         ensures memory { λ r. ⌜ Written (slow-words M·Memory) (slow-delay M·Memory) (slow-frame M·Memory) (now (self .entry)) number value r (now (self .exit)) ⌝ }
         ensures below { λ r. ⌜ Written (M·Memory .words) (M·Memory .delay) (M·Memory .frame) (now (self .entry) .below) number value r (now (self .exit) .below) ⌝ }
-        ensures stretch { λ _. ⌜ now (self .exit) ≡ record { below = now (self .exit) .below; first = now (self .entry) .first; length = now (self .entry) .length; extra = now (self .entry) .extra } ⌝ }
+        ensures stretch { λ _. ⌜ now (self .exit) ≡ slow-over (now (self .entry)) (now (self .exit) .below) ⌝ }
     {
         self.below.write(number, value)
     }

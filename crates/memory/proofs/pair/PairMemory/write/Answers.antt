@@ -5,7 +5,11 @@ use Rattle.memory.proofs.Joined.{joined-length, first-set, second-set}
 use Rattle.memory.proofs.pair.PairMemory.write.Needs as need
 
 pub returns-then-number-size : need.returns-then-number-size
-returns-then-number-size g c = search (needs, set-past)
+returns-then-number-size g c =
+    let p = c .args .self .now in
+    let l = joined-length (g .A·Memory .words (p .first)) (g .B·Memory .words (p .second)) in
+    let f = g .A·Memory .laws .few (p .first) in
+    search (needs, set-past)
 
 pub returns-then-number-front : need.returns-then-number-front
 returns-then-number-front g c =
