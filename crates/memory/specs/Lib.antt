@@ -5,4 +5,5 @@ pub mod Delays
 pub mod SlowStretch
 pub mod OpenRow
 pub mod Pair
+pub mod Edits
 pub mod Lawful

@@ -1,5 +1,6 @@
 //! Memories of words with delays: one meaning, five memories, and any pile of them.
 mod byte_memory;
+mod edits;
 mod memory;
 mod open_row;
 mod pair;
@@ -8,6 +9,8 @@ mod word_memory;
 
 pub use byte_memory::ByteMemory;
 pub use byte_memory::ByteMemoryMemory;
+pub use edits::copy_word;
+pub use edits::fill;
 pub use memory::Memory;
 pub use memory::MemoryFault;
 pub use open_row::OpenRow;
