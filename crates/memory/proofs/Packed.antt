@@ -13,7 +13,7 @@ use Rattle.std.proofs.shelf.Counted.{length-map-counting, getD-map-counting, fi
 use Rattle.std.proofs.shelf.Bits.{shr-shr, div-add-mod'}
 use Rattle.std.proofs.shelf.Tests.{cases-eq, cases-lt}
 use Rattle.memory.specs.ByteMemory.{packed-word, packed, bytes-used}
-use Rattle.memory.specs.Memory.{cut, wrap}
+use Rattle.memory.specs.Memory.{word-list}
 use Rattle.memory.proofs.Lists.{words-length, words-set}
 
 -- the four bytes of a word, high byte first
@@ -100,10 +100,10 @@ module _ (bs : List ℕ) (n v : ℕ) (within : 4 * n + 4 ≤ length bs) where
     left : putMid (4 * n) (4 * n + 4 - 4 * n) bs ys ≡ put bs n v
     left = let e : 4 * n + 4 - 4 * n ≡ 4 = omega arith in ap (λ k. putMid (4 * n) k bs ys) e ∙ ap (putMid (4 * n) 4 bs) is
 
-    pub put-words : v < 2 ^ 32 → cut (map wrap (packed (putMid (4 * n) (4 * n + 4 - 4 * n) bs ys))) ≡ set (cut (map wrap (packed bs))) n v
-    put-words fits = ap (λ (l : List ℕ). cut (map wrap (packed l))) left ∙ ap (λ (l : List ℕ). cut (map wrap l)) (packed-put fits) ∙ words-set (packed bs) n v fits
+    pub put-words : v < 2 ^ 32 → word-list (packed (putMid (4 * n) (4 * n + 4 - 4 * n) bs ys)) ≡ set (word-list (packed bs)) n v
+    put-words fits = ap (λ (l : List ℕ). word-list (packed l)) left ∙ ap word-list (packed-put fits) ∙ words-set (packed bs) n v fits
 
-    pub put-rest : n < length (cut (map wrap (packed bs))) → let bs′ = putMid (4 * n) (4 * n + 4 - 4 * n) bs ys in drop (bytes-used bs′) bs′ ≡ drop (bytes-used bs) bs
+    pub put-rest : n < length (word-list (packed bs)) → let bs′ = putMid (4 * n) (4 * n + 4 - 4 * n) bs ys in drop (bytes-used bs′) bs′ ≡ drop (bytes-used bs) bs
     put-rest h =
         ap (λ (l : List ℕ). drop (bytes-used l) l) left ∙ ap (λ m. drop (4 * min 8192 (m / 4)) (put bs n v)) put-length
         ∙ mid-drop (4 * n) 4 bs (bytes-of v) within refl (bytes-used bs) (omega (arith, words-length (packed bs), packed-length bs))

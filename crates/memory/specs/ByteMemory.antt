@@ -4,7 +4,7 @@ use Prim.Native.Nat.{ℕ, _+_, _*_, _/_, min}
 use denote.Ref.{now}
 use lib.ListN.{length, getD}
 use Rattle.std.specs.Iters.{counting}
-use Rattle.memory.specs.Memory.{cut, wrap, Loan, loan-of}
+use Rattle.memory.specs.Memory.{word-list, Loan, loan-of}
 use Rattle.memory.specs.declared.byte_memory.ByteMemory.{ByteMemory}
 
 -- word number n of some bytes: four bytes, high byte first
@@ -20,13 +20,13 @@ abbrev pub bytes-used : List ℕ → ℕ
 bytes-used bs = 4 * min 8192 (length bs / 4)
 
 -- at most the first 8,192 whole words of the lent bytes
-unfoldable pub byte-words : ByteMemory → List ℕ
-byte-words s = cut (map wrap (packed (now (s .bytes))))
+abbrev pub byte-words : ByteMemory → List ℕ
+byte-words s = word-list (packed (now (s .bytes)))
 
 -- no word has a delay
 abbrev pub byte-delay : ByteMemory → ℕ → ℕ
 byte-delay s n = 0
 
 -- what lies past them
-unfoldable pub byte-frame : ByteMemory → List Loan
+abbrev pub byte-frame : ByteMemory → List Loan
 byte-frame s = loan-of (bytes-used (now (s .bytes))) (s .bytes)

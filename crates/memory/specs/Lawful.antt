@@ -7,7 +7,7 @@ use lib.Dec.{ltb}
 use denote.Ref.{now}
 use lib.ListN.{length, getD, take, length-take}
 use Rattle.std.proofs.shelf.Tests.{le-ltb, cond-false, cond-both}
-use Rattle.memory.specs.Memory.{cut, wrap, Laws}
+use Rattle.memory.specs.Memory.{cut, wrap, word-list, Laws}
 use Rattle.memory.specs.WordMemory.{word-words, word-delay}
 use Rattle.memory.specs.ByteMemory.{packed, byte-words, byte-delay}
 use Rattle.memory.specs.Delays.{slower}
@@ -39,7 +39,8 @@ append-fits (x ∷ xs) ys g h zero = g 0
 append-fits (x ∷ xs) ys g h (suc n) = append-fits xs ys (λ k. g (suc k)) h n
 
 -- the laws of some words that are cut and wrapped, with no delays
-flat-laws : {S : Type 0} (list : S → List ℕ) → Laws (λ s. cut (map wrap (list s))) (λ _ _. 0)
+flat-laws : {S : Type 0} (list : S → List ℕ) → Laws (λ s. word-list (list s)) (λ _ _. 0)
+unfolding word-list
 flat-laws list = record {
   few = λ s. cut-few (map wrap (list s));
   fits = λ s. take-fits 8192 _ (map-fits wrap wrap-fits (list s));
@@ -48,11 +49,9 @@ flat-laws list = record {
 }
 
 pub word-laws : Laws word-words word-delay
-unfolding word-words
 word-laws = flat-laws (λ s. now (s .words))
 
 pub byte-laws : Laws byte-words byte-delay
-unfolding byte-words
 byte-laws = flat-laws (λ s. packed (now (s .bytes)))
 
 -- the laws of a memory's words with some delays added

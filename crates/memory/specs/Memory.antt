@@ -1,6 +1,6 @@
 -- What a memory means, and what each of its calls promises. Assumes nothing.
 use mathlib.Core.Path.{_≡_}
-use mathlib.Core.List.{List, [], _∷_}
+use mathlib.Core.List.{List, [], _∷_, map}
 use mathlib.Core.Bool.{cond}
 use Prim.Native.Nat.{ℕ, _%_, _^_, _≤_, _<_}
 use denote.Ref.{RefT, now, name}
@@ -13,6 +13,10 @@ use Rattle.memory.specs.declared.memory.MemoryFault.{MemoryFault}
 -- at most the first 8,192 words
 abbrev pub cut : List ℕ → List ℕ
 cut ws = take 8192 ws
+
+-- the value of the low 32 bits
+abbrev pub wrap : ℕ → ℕ
+wrap w = w % 4294967296
 
 -- the refusal of word number n by a memory of the words ws
 abbrev pub fault-of : List ℕ → ℕ → MemoryFault
@@ -32,12 +36,12 @@ pub record Loan : Type 0 where
   pub rest : List ℕ
 
 -- the one loan of a slice of which the first elements, so many, are used
-abbrev pub loan-of : ℕ → RefT (List ℕ) → List Loan
+unfoldable pub loan-of : ℕ → RefT (List ℕ) → List Loan
 loan-of used s = record { loan = name s; rest = drop used (now s) } ∷ []
 
--- the value of a word of 32 bits: a word of the code is one already
-abbrev pub wrap : ℕ → ℕ
-wrap w = w % 4294967296
+-- the words of a memory over a list: at most its first 8,192. A word is taken as one of 32 bits, as every word of the code is
+unfoldable pub word-list : List ℕ → List ℕ
+word-list ws = cut (map wrap ws)
 
 -- what holds of every memory: at most 8,192 words, each of 32 bits; delays of at most 255, and none from the size on
 pub record Laws {S : Type 0} (words : S → List ℕ) (delay : S → ℕ → ℕ) : Type 0 where

@@ -3,8 +3,8 @@ ghost use mathlib.Core.Path.{_≡_};
 ghost use Prim.Native.Nat.{_+_, _*_, _<_, _≤_};
 ghost use denote.Ref.{name};
 ghost use lib.ListN.{length, getD, set};
-ghost use Rattle.memory.specs.Memory.{cut, loan-of};
-ghost use Rattle.memory.specs.ByteMemory.{packed, bytes-used, byte-words, byte-delay, byte-frame};
+ghost use Rattle.memory.specs.Memory.{cut, word-list, loan-of};
+ghost use Rattle.memory.specs.ByteMemory.{packed-word, packed, bytes-used, byte-words, byte-delay, byte-frame};
 ghost use Rattle.memory.specs.Lawful.{byte-laws};
 use crate::memory::Memory;
 use crate::memory::MemoryFault;
@@ -13,6 +13,22 @@ use crate::memory::capped;
 #[derive(Drop)]
 pub struct ByteMemory<'a> {
     bytes: &'a mut [u8],
+}
+
+// Nothing but the fact: the elements of a slice are known to fit once it is lent to a call.
+fn all_fit(bytes: &[u8])
+    ensures { λ _. ⌜ word-list (packed (now (bytes .entry))) ≡ cut (packed (now (bytes .entry))) ⌝ }
+{
+    let _ = bytes.is_empty();
+}
+
+/// The word with the number, which is there.
+fn packed_word(bytes: &[u8], number: u32) -> u32
+    requires { ⌜ 4 * number + 4 ≤ length (now bytes) ⌝ }
+    ensures { λ r. ⌜ r ≡ packed-word (now (bytes .entry)) number ⌝ }
+{
+    let at = 4 * number as usize;
+    u32::from_be_bytes([bytes[at], bytes[at + 1], bytes[at + 2], bytes[at + 3]])
 }
 
 impl<'a> ByteMemory<'a> {
@@ -24,7 +40,7 @@ impl<'a> ByteMemory<'a> {
         ensures delay { λ r. ⌜ byte-delay r ≡ (λ _. 0) ⌝ }
         ensures frame { λ r. ⌜ byte-frame r ≡ loan-of (bytes-used (now (bytes .entry))) (bytes .entry) ⌝ }
     {
-        look(bytes);
+        all_fit(bytes);
         ByteMemory { bytes }
     }
 
@@ -40,13 +56,7 @@ impl<'a> ByteMemory<'a> {
         requires within { ⌜ 4 * number + 4 ≤ length (now (now self .bytes)) ⌝ }
         ensures { λ r. ⌜ r ≡ getD (byte-words (now (self .entry))) number 0 ⌝ }
     {
-        let at = 4 * number as usize;
-        u32::from_be_bytes([
-            self.bytes[at],
-            self.bytes[at + 1],
-            self.bytes[at + 2],
-            self.bytes[at + 3],
-        ])
+        packed_word(self.bytes, number)
     }
 
     fn put(&mut self, number: u32, value: u32)
@@ -59,9 +69,6 @@ impl<'a> ByteMemory<'a> {
         self.bytes[at..at + 4].copy_from_slice(&value.to_be_bytes());
     }
 }
-
-/// Does nothing. Once a slice is lent by a call, each of its elements is known to fit.
-fn look(_bytes: &[u8]) {}
 
 pub impl<'a> Memory for ByteMemory<'a> as ByteMemoryMemory {
     ghost words = { byte-words };

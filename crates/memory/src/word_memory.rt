@@ -3,7 +3,7 @@ ghost use mathlib.Core.Path.{_≡_};
 ghost use Prim.Native.Nat.{_<_, _≤_};
 ghost use denote.Ref.{name};
 ghost use lib.ListN.{length, getD, set};
-ghost use Rattle.memory.specs.Memory.{cut, loan-of};
+ghost use Rattle.memory.specs.Memory.{cut, word-list, loan-of};
 ghost use Rattle.memory.specs.WordMemory.{word-words, word-delay, word-frame};
 ghost use Rattle.memory.specs.Lawful.{word-laws};
 use crate::memory::Memory;
@@ -15,8 +15,12 @@ pub struct WordMemory<'a> {
     words: &'a mut [u32],
 }
 
-/// Does nothing. Once a slice is lent by a call, each of its elements is known to fit.
-fn look(_words: &[u32]) {}
+// Nothing but the fact: the elements of a slice are known to fit once it is lent to a call.
+fn all_fit(words: &[u32])
+    ensures { λ _. ⌜ word-list (now (words .entry)) ≡ cut (now (words .entry)) ⌝ }
+{
+    let _ = words.is_empty();
+}
 
 /// `word`. As a call's result it is known to fit, as an element of a slice behind a field is not.
 fn fitting(word: u32) -> u32
@@ -34,7 +38,7 @@ impl<'a> WordMemory<'a> {
         ensures delay { λ r. ⌜ word-delay r ≡ (λ _. 0) ⌝ }
         ensures frame { λ r. ⌜ word-frame r ≡ loan-of 8192 (words .entry) ⌝ }
     {
-        look(words);
+        all_fit(words);
         WordMemory { words }
     }
 
