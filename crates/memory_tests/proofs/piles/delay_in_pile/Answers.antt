@@ -1,3 +1,4 @@
+use borrow.Author.Needs.{needs}
 use mathlib.Core.Path.{_≡_, ap, _∙_}
 use mathlib.Core.List.{List}
 use Prim.Native.Nat.{ℕ}
@@ -11,4 +12,5 @@ pub returns : need.returns
 returns c =
     let words = c .new-2 .ensures .words ∙ c .new .ensures .words in
     let slow = c .new-2 .ensures .delay ∙ slower-same _ (c .new .ensures .words) (c .new .ensures .delay) in
-    c .delay .ensures .answer ∙ ap (λ (f : ℕ → ℕ). f (c .args .number)) (c .new-pile .ensures .delay ∙ slower-same _ words slow)
+    let first = ap (λ (f : ℕ → ℕ). f (c .args .number)) (c .new-pile .ensures .delay ∙ slower-same _ words slow) in
+    search needs
