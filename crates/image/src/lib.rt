@@ -11,3 +11,4 @@ pub use image::Image;
 pub use part::ImagePart;
 pub use reading::read;
 pub use refusal::ImageRefusal;
+pub use refusal::ImageRefusalDisplay;
