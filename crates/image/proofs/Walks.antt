@@ -62,6 +62,12 @@ accepted-length k limit bytes h = at (walk k limit bytes) refl h where
   at (Ok segments) e ok = sym (walk-length k limit bytes segments e)
   at (Err x) e ok = absurd (false≢true ok)
 
+pub accepted-most : (k limit : ℕ) (bytes : List ℕ) → length (accepted (walk k limit bytes)) ≤ k
+accepted-most k limit bytes = at (walk k limit bytes) refl where
+  at : (r : Read) → walk k limit bytes ≡ r → length (accepted r) ≤ k
+  at (Ok segments) e = omega (arith, walk-length k limit bytes segments e)
+  at (Err x) e = omega arith
+
 -- what stands at i, once one segment more stands at the end
 nth-push : (xs : List Segment) (x : Segment) (i : ℕ) → (length xs ≡ i → ⊥) → nth (xs ++ (x ∷ [])) i ≡ nth xs i
 nth-push [] x zero ne = absurd (ne refl)

@@ -1,11 +1,14 @@
 -- What the values of the code stand for: an image for its segments, a part of it for one segment. Assumes nothing.
+use mathlib.Core.Bool.{true}
 use mathlib.Core.List.{List, []}
+use mathlib.Core.Path.{_≡_}
 use Prim.Native.Nat.{ℕ}
 use denote.Ref.{RefT}
 use Rattle.std.specs.declared.option.Option.{Option}
 use Rattle.std.specs.declared.result.Result.{Result}
 use Rattle.std.specs.declared.result.Result.the-variants.{Ok, Err}
 use Rattle.std.specs.Options.{mapped}
+use Rattle.std.specs.Results.{isOk}
 use Rattle.std.specs.shelf.Maps.{nth}
 use Rattle.image.specs.declared.refusal.ImageRefusal.{ImageRefusal}
 use Rattle.image.specs.declared.image.Image.{Image}
@@ -33,19 +36,23 @@ abbrev pub part-of : Result (Option ImagePart) ImageRefusal → Result (Option S
 part-of (Ok o) = Ok (mapped segment-of o)
 part-of (Err e) = Err e
 
--- what is read of an image's bytes
+-- what a walk over an image's bytes gives
 abbrev pub walked : Image → Result (List Segment) ImageRefusal
 walked i = walk (i .count) (i .size) (i .body .now)
 
--- what the code tells of bytes that it read
-abbrev pub told : Result Image ImageRefusal → Result (List Segment) ImageRefusal
-told (Ok i) = walked i
-told (Err e) = Err e
-
--- the segments of an image
+-- the segments of an image: none where the walk is refused
 abbrev pub accepted : Result (List Segment) ImageRefusal → List Segment
 accepted (Ok segments) = segments
 accepted (Err e) = []
 
 abbrev pub segments-of : Image → List Segment
 segments-of i = accepted (walked i)
+
+-- an image whose walk is accepted
+abbrev pub Whole : Image → Type 0
+Whole i = isOk (walked i) ≡ true
+
+-- what the code tells of bytes that it read
+abbrev pub told : Result Image ImageRefusal → Result (List Segment) ImageRefusal
+told (Ok i) = Ok (segments-of i)
+told (Err e) = Err e

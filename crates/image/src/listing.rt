@@ -1,11 +1,9 @@
 // What an image lists.
-ghost use mathlib.Core.Bool.{true};
 ghost use mathlib.Core.Path.{_≡_};
 ghost use lib.ListN.{length};
 ghost use Rattle.std.specs.Options.{mapped};
-ghost use Rattle.std.specs.Results.{isOk};
 ghost use Rattle.std.specs.shelf.Maps.{nth};
-ghost use Rattle.image.specs.Views.{segment-of, segments-of, walked};
+ghost use Rattle.image.specs.Views.{Whole, segment-of, segments-of};
 use crate::image::Image;
 use crate::number::number_at;
 use crate::part::ImagePart;
@@ -15,7 +13,7 @@ impl<'a> Image<'a> {
     // How many segments there are.
     pub fn count(&self) -> u32
         ensures value { λ r. ⌜ r ≡ now (self .entry) .count ⌝ }
-        ensures segments { λ r. ⌜ (isOk (walked (now (self .entry))) ≡ true → r ≡ length (segments-of (now (self .entry)))) ⌝ }
+        ensures segments { λ r. ⌜ (Whole (now (self .entry)) → r ≡ length (segments-of (now (self .entry)))) ⌝ }
     {
         self.count
     }

@@ -1,10 +1,11 @@
 // Reading an image from bytes.
 ghost use mathlib.Core.Path.{_≡_};
 ghost use mathlib.Core.List.{List};
+ghost use Rattle.std.specs.Vec.{made};
 ghost use Rattle.image.specs.Accepting.{Accepts-exactly};
 ghost use Rattle.image.specs.Reading.{reading};
 ghost use Rattle.image.specs.Segments.{Segment};
-ghost use Rattle.image.specs.Views.{told};
+ghost use Rattle.image.specs.Views.{Whole, told};
 use crate::image::Image;
 use crate::number::number_at;
 use crate::refusal::ImageRefusal;
@@ -17,13 +18,15 @@ const MARK: u32 = 0x53524349;
 // With the answer comes that it accepts exactly what is written.
 pub fn read(bytes: &[u8], size: u32) -> Result<Image<'_>, ImageRefusal>
     ensures answer { λ r. ⌜ told r ≡ reading size (now (bytes .entry)) ⌝ }
+    ensures whole { λ r. ⌜ made r Whole ⌝ }
     ensures accepts { λ r. ⌜ ((segments : List Segment) → Accepts-exactly (told r) size (now (bytes .entry)) segments) ⌝ }
 {
     opened(bytes, size)
 }
 
 fn opened(bytes: &[u8], size: u32) -> Result<Image<'_>, ImageRefusal>
-    ensures { λ r. ⌜ told r ≡ reading size (now (bytes .entry)) ⌝ }
+    ensures answer { λ r. ⌜ told r ≡ reading size (now (bytes .entry)) ⌝ }
+    ensures whole { λ r. ⌜ made r Whole ⌝ }
 {
     let length = bytes.len();
     if length < 12 || length > 65_536 {
