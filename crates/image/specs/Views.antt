@@ -1,25 +1,33 @@
 -- What the values of the code stand for: an image for its segments, a part of it for one segment. Assumes nothing.
-use mathlib.Core.Bool.{true}
 use mathlib.Core.List.{List, []}
 use mathlib.Core.Path.{_≡_}
-use Prim.Native.Nat.{ℕ}
+use Prim.Native.Nat.{ℕ, _+_, _-_, _*_, _≤_}
 use denote.Ref.{RefT}
+use lib.ListN.{length}
 use Rattle.std.specs.declared.option.Option.{Option}
 use Rattle.std.specs.declared.result.Result.{Result}
 use Rattle.std.specs.declared.result.Result.the-variants.{Ok, Err}
 use Rattle.std.specs.Options.{mapped}
-use Rattle.std.specs.Results.{isOk}
 use Rattle.std.specs.shelf.Maps.{nth}
 use Rattle.image.specs.declared.refusal.ImageRefusal.{ImageRefusal}
 use Rattle.image.specs.declared.image.Image.{Image}
 use Rattle.image.specs.declared.part.ImagePart.{ImagePart}
 use Rattle.image.specs.Numbers.{words-of}
 use Rattle.image.specs.Segments.{Segment}
-use Rattle.image.specs.Reading.{Split, walk}
+use Rattle.image.specs.Reading.{first-of, count-of, Split, walk}
 
 -- the segment that a part of an image holds
 abbrev pub segment-of : ImagePart → Segment
 segment-of p = record { first = p .first; values = words-of (p .words .now) }
+
+-- the bytes end in a segment of the count, whose words are there and do not pass the limit
+pub record Ends (limit : ℕ) (bytes : List ℕ) (first count : ℕ) : Type 0 where
+  pub ended : 8 ≤ length bytes
+  pub first-is : first ≡ first-of bytes
+  pub count-is : count ≡ count-of bytes
+  pub some : count ≡ 0 → ⊥
+  pub inside : 4 * count ≤ length bytes - 8
+  pub fits : first + count ≤ limit
 
 -- what the code tells of the segment at the end of bytes
 abbrev pub split-of : Result (RefT (List ℕ) × ImagePart) ImageRefusal → Result Split ImageRefusal
@@ -48,9 +56,9 @@ accepted (Err e) = []
 abbrev pub segments-of : Image → List Segment
 segments-of i = accepted (walked i)
 
--- an image whose walk is accepted
-abbrev pub Whole : Image → Type 0
-Whole i = isOk (walked i) ≡ true
+-- an image that counts its segments right
+abbrev pub Counted : Image → Type 0
+Counted i = i .count ≡ length (segments-of i)
 
 -- what the code tells of bytes that it read
 abbrev pub told : Result Image ImageRefusal → Result (List Segment) ImageRefusal

@@ -1,7 +1,7 @@
 // Loading an image into a memory.
 ghost use mathlib.Core.Path.{_≡_};
-ghost use Prim.Native.Nat.{_≤_};
-ghost use lib.ListN.{length};
+ghost use Prim.Native.Nat.{_+_, _^_, _<_, _≤_};
+ghost use lib.ListN.{length, set};
 ghost use Rattle.image.specs.Loading.{stored, loaded, Loads};
 ghost use Rattle.image.specs.Segments.{end-of, InOrder};
 ghost use Rattle.image.specs.Views.{segment-of, segments-of};
@@ -39,7 +39,15 @@ fn set_words<M: Memory>(memory: &mut M, part: &ImagePart)
 {
     let mut k = 0;
     while let Some(word) = part.word(k) {
-        let _ = memory.write((part.first as usize + k) as u32, word);
+        set_word(memory, part.first, k, word);
         k += 1;
     }
+}
+
+fn set_word<M: Memory>(memory: &mut M, first: u32, k: usize, word: u32)
+    requires { ⌜ first + k < 2 ^ 32 ⌝ }
+    ensures words { λ _. ⌜ M·Memory .words (now (memory .exit)) ≡ set (M·Memory .words (now (memory .entry))) (first + k) word ⌝ }
+    ensures frame { λ _. ⌜ M·Memory .frame (now (memory .exit)) ≡ M·Memory .frame (now (memory .entry)) ⌝ }
+{
+    let _ = memory.write((first as usize + k) as u32, word);
 }

@@ -1,11 +1,13 @@
 // Reading an image from bytes.
+ghost use mathlib.Core.Bool.{true};
 ghost use mathlib.Core.Path.{_≡_};
 ghost use mathlib.Core.List.{List};
+ghost use Rattle.std.specs.Results.{isOk};
 ghost use Rattle.std.specs.Vec.{made};
 ghost use Rattle.image.specs.Accepting.{Accepts-exactly};
 ghost use Rattle.image.specs.Reading.{reading};
 ghost use Rattle.image.specs.Segments.{Segment};
-ghost use Rattle.image.specs.Views.{Whole, told};
+ghost use Rattle.image.specs.Views.{Counted, told, walked};
 use crate::image::Image;
 use crate::number::number_at;
 use crate::refusal::ImageRefusal;
@@ -18,7 +20,7 @@ const MARK: u32 = 0x53524349;
 // With the answer comes that it accepts exactly what is written.
 pub fn read(bytes: &[u8], size: u32) -> Result<Image<'_>, ImageRefusal>
     ensures answer { λ r. ⌜ told r ≡ reading size (now (bytes .entry)) ⌝ }
-    ensures whole { λ r. ⌜ made r Whole ⌝ }
+    ensures counted { λ r. ⌜ made r Counted ⌝ }
     ensures accepts { λ r. ⌜ ((segments : List Segment) → Accepts-exactly (told r) size (now (bytes .entry)) segments) ⌝ }
 {
     opened(bytes, size)
@@ -26,7 +28,7 @@ pub fn read(bytes: &[u8], size: u32) -> Result<Image<'_>, ImageRefusal>
 
 fn opened(bytes: &[u8], size: u32) -> Result<Image<'_>, ImageRefusal>
     ensures answer { λ r. ⌜ told r ≡ reading size (now (bytes .entry)) ⌝ }
-    ensures whole { λ r. ⌜ made r Whole ⌝ }
+    ensures whole { λ r. ⌜ made r (λ i. isOk (walked i) ≡ true) ⌝ }
 {
     let length = bytes.len();
     if length < 12 || length > 65_536 {

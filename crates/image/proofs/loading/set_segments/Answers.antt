@@ -29,6 +29,6 @@ pub returns : need.returns
 returns g c =
     let i = c .args .image .now in
     record {
-      words = loaded-all _ _ (segments-of i) (c .loop-i .i) (c .loop-i .inv .0) (omega (arith, c .count-i-end .ensures .value, accepted-most (i .count) (i .size) (i .body .now)));
+      words = loaded-all _ _ (segments-of i) (c .loop-i .i) (c .loop-i .inv .0) (omega (arith, c .count-i-end .ensures, accepted-most (i .count) (i .size) (i .body .now)));
       frame = c .loop-i .inv .1;
     }

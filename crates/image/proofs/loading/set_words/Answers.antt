@@ -12,8 +12,8 @@ loop-word-again g c =
     let vs = words-of (c .args .part .now .words .now) in
     let found = c .in-Some .ensures tt in (
       omega (arith, found-below vs (c .loop-word .k) _ found),
-      stored-more _ _ _ vs (c .args .part .now .first) (c .loop-word .k) _ (c .loop-word .inv .1) found (c .write .ensures .word-set),
-      c .write .ensures .frame-kept ∙ c .loop-word .inv .2,
+      stored-more _ _ _ vs (c .args .part .now .first) (c .loop-word .k) _ (c .loop-word .inv .1) found (c .set-word .ensures .words),
+      c .set-word .ensures .frame ∙ c .loop-word .inv .2,
     )
 
 pub returns : need.returns
