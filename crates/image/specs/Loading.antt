@@ -36,19 +36,21 @@ pub record Sets-what-is-listed (words : List ℕ) (segments : List Segment) : Ty
   pub others : (n : ℕ) → ((v : ℕ) → Listed segments n v → ⊥) → getD (loaded words segments) n 0 ≡ getD words n 0
   pub words32 : All (λ w. w < 2 ^ 32) words → All (λ w. w < 2 ^ 32) (loaded words segments)
 
--- what loading bytes into a memory of the size answers
+-- what loading answers where reading answers so
 abbrev pub verdict : Result (List Segment) ImageRefusal → Result (Unit {0}) ImageRefusal
 verdict (Ok segments) = Ok tt
 verdict (Err e) = Err e
 
+-- what loading bytes into a memory of the size answers
 abbrev pub load-of : ℕ → List ℕ → Result (Unit {0}) ImageRefusal
 load-of size bytes = verdict (reading size bytes)
 
--- the words after it: a refusal changes none
+-- the words with what was read: a refusal changes none
 abbrev pub words-with : List ℕ → Result (List Segment) ImageRefusal → List ℕ
 words-with words (Ok segments) = loaded words segments
 words-with words (Err e) = words
 
+-- the words after loading bytes
 abbrev pub words-loaded : List ℕ → List ℕ → List ℕ
 words-loaded words bytes = words-with words (reading (length words) bytes)
 

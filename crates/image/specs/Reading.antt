@@ -31,6 +31,7 @@ pub record Split : Type 0 where
   pub before : List ℕ
   pub segment : Segment
 
+-- the bytes so split
 abbrev pub split-off : List ℕ → Split
 split-off bytes = record {
   before = take (before-of bytes) bytes;
@@ -60,6 +61,7 @@ before-it read (Err e) = Err e
 abbrev pub nothing-left : List ℕ → Result (Unit {0}) ImageRefusal
 nothing-left bytes = cond (eqb (length bytes) 0) (Ok tt) (Err (LeftOver (length bytes)))
 
+-- where no segment is to be read: none, if nothing is left
 abbrev pub none-read : Result (Unit {0}) ImageRefusal → Result (List Segment) ImageRefusal
 none-read (Ok u) = Ok []
 none-read (Err e) = Err e

@@ -48,11 +48,12 @@ part-of (Err e) = Err e
 abbrev pub walked : Image → Result (List Segment) ImageRefusal
 walked i = walk (i .count) (i .size) (i .body .now)
 
--- the segments of an image: none where the walk is refused
+-- what was read, and nothing where it was refused
 abbrev pub accepted : Result (List Segment) ImageRefusal → List Segment
 accepted (Ok segments) = segments
 accepted (Err e) = []
 
+-- the segments of an image
 abbrev pub segments-of : Image → List Segment
 segments-of i = accepted (walked i)
 

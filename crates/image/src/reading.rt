@@ -17,7 +17,7 @@ use crate::walk::walk;
 const MARK: u32 = 0x53524349;
 
 // Reads the image at the end of `bytes`, for a memory of `size` words. What stands before the image is ignored.
-// With the answer comes that it accepts exactly what is written.
+// The answer is the definition's, and with it comes that exactly what is written is accepted.
 pub fn read(bytes: &[u8], size: u32) -> Result<Image<'_>, ImageRefusal>
     ensures answer { λ r. ⌜ told r ≡ reading size (now (bytes .entry)) ⌝ }
     ensures counted { λ r. ⌜ made r Counted ⌝ }
@@ -26,6 +26,7 @@ pub fn read(bytes: &[u8], size: u32) -> Result<Image<'_>, ImageRefusal>
     opened(bytes, size)
 }
 
+// What `read` answers.
 fn opened(bytes: &[u8], size: u32) -> Result<Image<'_>, ImageRefusal>
     ensures answer { λ r. ⌜ told r ≡ reading size (now (bytes .entry)) ⌝ }
     ensures whole { λ r. ⌜ made r (λ i. isOk (walked i) ≡ true) ⌝ }
@@ -49,7 +50,7 @@ fn opened(bytes: &[u8], size: u32) -> Result<Image<'_>, ImageRefusal>
         });
     }
     let body = &bytes[before - back as usize..before];
-    // The walk decides; the segment that it finds is not needed here.
+    // The walk decides. Which segment it looks for does not matter here.
     let _ = walk(body, segments, size, 0)?;
     Ok(Image {
         body,

@@ -58,6 +58,7 @@ fn last_segment(
     Ok((&body[0..start], ImagePart { first, words }))
 }
 
+// Refuses bytes that are left over.
 fn whole(rest: &[u8]) -> Result<(), ImageRefusal>
     ensures { λ r. ⌜ r ≡ nothing-left (now (rest .entry)) ⌝ }
 {

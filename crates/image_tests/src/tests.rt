@@ -1,21 +1,41 @@
-// What reading and loading answer.
-use crate::made::NO_SEGMENTS;
-use crate::made::TWO_SEGMENTS;
-use crate::made::TWO_WORDS;
-use crate::made::many;
-use crate::made::padded;
-use crate::made::two_segments;
-use crate::made::two_words;
+// What reading and loading answer. Images are written as their numbers, of four bytes each.
 use image::ImageRefusalDisplay;
 use image::load;
 use image::read;
 use memory::WordMemory;
 use memory::WordMemoryMemory;
+use std::alloc::AllocError;
 use std::alloc::Global;
 use std::test::*;
 
+const MARK: u32 = 0x53524349;
+
+// Two words from number 0 on, and two from number 4 on with one from number 6 on.
+const TWO_WORDS: [u32; 7] = [0x68C2003A, 0xF8000000, 0, 2, MARK, 1, 16];
+
+const TWO_SEGMENTS: [u32; 10] = [1, 2, 4, 2, 3, 6, 1, MARK, 2, 28];
+
+// So many bytes that are no part of an image, and then the numbers.
+fn bytes(heap: Global, ignored: usize, numbers: &[u32]) -> Result<Vec<u8>, AllocError> {
+    let mut all = vec![in heap; 0x53; ignored]?;
+    for n in numbers {
+        all.extend_from_slice(&n.to_be_bytes())?;
+    }
+    Ok(all)
+}
+
+// So many segments of one word each.
+fn many(heap: Global, segments: u32) -> Result<Vec<u32>, AllocError> {
+    let mut numbers = Vec::new(heap);
+    for i in 0..segments {
+        numbers.extend_from_slice(&[i, i, 1])?;
+    }
+    numbers.extend_from_slice(&[MARK, segments, segments.wrapping_mul(12)])?;
+    Ok(numbers)
+}
+
 // What reading says for a memory of `size` words: how many segments, or the refusal.
-fn reads(heap: Global, image: &[u8], size: u32, text: &str) -> Result<(), Fail> {
+fn tells(heap: Global, image: &[u8], size: u32, text: &str) -> Result<(), Fail> {
     let told = match read(image, size) {
         Ok(image) => {
             let count = image.count();
@@ -26,9 +46,15 @@ fn reads(heap: Global, image: &[u8], size: u32, text: &str) -> Result<(), Fail> 
     check_eq(told.as_str(), text)
 }
 
+fn reads(heap: Global, numbers: &[u32], size: u32, text: &str) -> Result<(), Fail> {
+    tells(heap, &bytes(heap, 0, numbers)?, size, text)
+}
+
 #[test]
 fn one_segment() -> Result<(), Fail> {
-    let image = match read(&TWO_WORDS, 2) {
+    let bytes =
+        b"\x68\xC2\x00\x3A\xF8\x00\x00\x00\x00\x00\x00\x00\x00\x00\x00\x02\x53\x52\x43\x49\x00\x00\x00\x01\x00\x00\x00\x10";
+    let image = match read(bytes, 2) {
         Ok(image) => image,
         Err(_) => return Err(Fail::new("refused")),
     };
@@ -44,18 +70,18 @@ fn one_segment() -> Result<(), Fail> {
 #[test]
 fn lengths(rt: LibcRuntime) -> Result<(), Fail> {
     let heap = rt.alloc();
-    reads(heap, &NO_SEGMENTS, 0, "segments: 0")?;
-    reads(
+    tells(heap, b"SRCI\0\0\0\0\0\0\0\0", 0, "segments: 0")?;
+    tells(
         heap,
-        &NO_SEGMENTS[1..12],
+        b"RCI\0\0\0\0\0\0\0\0",
         0,
         "refusal 8: 11 bytes, and an image has 12 to 65536",
     )?;
-    reads(heap, &padded(heap, 3, &TWO_WORDS)?, 2, "segments: 1")?;
-    reads(heap, &padded(heap, 65_508, &TWO_WORDS)?, 2, "segments: 1")?;
-    reads(
+    tells(heap, &bytes(heap, 3, &TWO_WORDS)?, 2, "segments: 1")?;
+    tells(heap, &bytes(heap, 65_508, &TWO_WORDS)?, 2, "segments: 1")?;
+    tells(
         heap,
-        &padded(heap, 65_509, &TWO_WORDS)?,
+        &bytes(heap, 65_509, &TWO_WORDS)?,
         2,
         "refusal 8: 65537 bytes, and an image has 12 to 65536",
     )
@@ -66,8 +92,8 @@ fn trailers(rt: LibcRuntime) -> Result<(), Fail> {
     let heap = rt.alloc();
     reads(
         heap,
-        &two_words(19, 0x48),
-        2,
+        &[1, 0, 1, 0x53524348, 1, 12],
+        1,
         "refusal 9: 53524348 stands for the mark 53524349",
     )?;
     reads(heap, &many(heap, 64)?, 64, "segments: 64")?;
@@ -77,17 +103,12 @@ fn trailers(rt: LibcRuntime) -> Result<(), Fail> {
         65,
         "refusal 10: 65 segments of 780 bytes, and there may be 64 of the 780 bytes before the trailer",
     )?;
+    reads(heap, &[1, 0, 1, MARK, 1, 12], 1, "segments: 1")?;
     reads(
         heap,
-        &two_words(27, 17),
-        2,
-        "refusal 10: 1 segments of 17 bytes, and there may be 64 of the 16 bytes before the trailer",
-    )?;
-    reads(
-        heap,
-        &two_words(23, 0),
-        2,
-        "refusal 13: 16 bytes are left over before segment 0",
+        &[1, 0, 1, MARK, 1, 13],
+        1,
+        "refusal 10: 1 segments of 13 bytes, and there may be 64 of the 12 bytes before the trailer",
     )
 }
 
@@ -96,35 +117,35 @@ fn segments(rt: LibcRuntime) -> Result<(), Fail> {
     let heap = rt.alloc();
     reads(
         heap,
-        &two_words(27, 7),
-        2,
+        &[1, 0, 1, MARK, 1, 7],
+        1,
         "refusal 11: segment 0 has 7 bytes, and needs 8",
     )?;
     reads(
         heap,
-        &two_words(15, 0),
-        2,
+        &[0, 0, MARK, 1, 8],
+        1,
         "refusal 11: segment 0 has no words",
     )?;
     reads(
         heap,
-        &two_words(15, 1),
+        &[1, 0, 2, MARK, 1, 12],
         2,
+        "refusal 11: segment 0 has 2 words, and there are 4 bytes for them",
+    )?;
+    reads(
+        heap,
+        &[1, 1, 1, MARK, 1, 12],
+        1,
+        "refusal 12: segment 0 has 1 words from number 1 on, and has to end before number 1",
+    )?;
+    reads(heap, &[1, 1, 1, MARK, 1, 12], 2, "segments: 1")?;
+    reads(
+        heap,
+        &[2, 1, 0, 1, MARK, 1, 16],
+        1,
         "refusal 13: 4 bytes are left over before segment 0",
-    )?;
-    reads(
-        heap,
-        &two_words(15, 3),
-        2,
-        "refusal 11: segment 0 has 3 words, and there are 8 bytes for them",
-    )?;
-    reads(
-        heap,
-        &two_words(11, 1),
-        2,
-        "refusal 12: segment 0 has 2 words from number 1 on, and has to end before number 2",
-    )?;
-    reads(heap, &two_words(11, 1), 3, "segments: 1")
+    )
 }
 
 #[test]
@@ -133,45 +154,47 @@ fn order(rt: LibcRuntime) -> Result<(), Fail> {
     reads(heap, &TWO_SEGMENTS, 7, "segments: 2")?;
     reads(
         heap,
-        &two_segments(23, 5),
+        &[1, 2, 4, 2, 3, 5, 1, MARK, 2, 28],
         7,
         "refusal 12: segment 0 has 2 words from number 4 on, and has to end before number 5",
     )?;
-    // the last segment is too high and the first has no words: the last decides
+    // the last segment passes the size and the first has no words: the last decides
     reads(
         heap,
-        &two_segments(15, 0),
+        &[1, 2, 4, 0, 3, 6, 1, MARK, 2, 28],
         6,
         "refusal 12: segment 1 has 1 words from number 6 on, and has to end before number 6",
     )?;
     reads(
         heap,
-        &two_segments(15, 0),
+        &[1, 2, 4, 0, 3, 6, 1, MARK, 2, 28],
         7,
         "refusal 11: segment 0 has no words",
     )?;
-    // too many words and too high: 11 comes before 12
+    // words that are not there and that pass the size: 11 comes before 12
     reads(
         heap,
-        &two_words(15, 3),
+        &[1, 0, 2, MARK, 1, 12],
         1,
-        "refusal 11: segment 0 has 3 words, and there are 8 bytes for them",
+        "refusal 11: segment 0 has 2 words, and there are 4 bytes for them",
     )
 }
 
 #[test]
-fn loads() -> Result<(), Fail> {
+fn loads(rt: LibcRuntime) -> Result<(), Fail> {
+    let image = bytes(rt.alloc(), 1, &TWO_SEGMENTS)?;
     let mut words = [9; 8];
     let mut memory = WordMemory::new(&mut words);
-    check(load(&mut memory, &TWO_SEGMENTS).is_ok())?;
+    check(load(&mut memory, &image).is_ok())?;
     check_eq(words, [9, 9, 9, 9, 1, 2, 3, 9])
 }
 
 #[test]
-fn refuses_to_load() -> Result<(), Fail> {
+fn refuses_to_load(rt: LibcRuntime) -> Result<(), Fail> {
+    let image = bytes(rt.alloc(), 1, &TWO_SEGMENTS)?;
     let mut words = [9; 6];
     let mut memory = WordMemory::new(&mut words);
-    match load(&mut memory, &TWO_SEGMENTS) {
+    match load(&mut memory, &image) {
         Ok(()) => return Err(Fail::new("loaded")),
         Err(refusal) => check_eq(refusal.number(), 12)?,
     }
