@@ -18,7 +18,7 @@ use Rattle.image.specs.declared.refusal.ImageRefusal.{ImageRefusal}
 use Rattle.image.specs.declared.refusal.ImageRefusal.the-variants.{Length, Mark, Trailer, LeftOver}
 use Rattle.image.specs.Accepting.{Ends-in-image, Accepts-exactly}
 use Rattle.image.specs.Numbers.{number-at, number-bytes}
-use Rattle.image.specs.Reading.{mark, mark-of, number-of-segments, back-of, body-of, Split, split-off, last-segment, before-it, followed, walk, reading}
+use Rattle.image.specs.Reading.{mark, mark-of, number-of-segments, back-of, body-of, Split, split-off, last-segment, none-read, before-it, followed, walk, reading}
 use Rattle.image.specs.Segments.{Segment, end-of, Filled, Ascending, InOrder}
 use Rattle.image.specs.Writing.{segment-bytes, written}
 use Rattle.image.proofs.Numbers.{number-at-append, number-back, number-here}
@@ -30,7 +30,7 @@ use Rattle.image.proofs.Walks.{step, walk-length}
 pub walk-only : (k limit : ℕ) (bytes : List ℕ) (segments : List Segment) → All (λ b. b < 256) bytes → walk k limit bytes ≡ Ok segments →
     (bytes ≡ joined segment-bytes segments) × Ascending 0 limit segments
 walk-only zero limit bytes segments small h = at (eqb (length bytes) 0) refl h where
-  at : (b : Bool) → eqb (length bytes) 0 ≡ b → _≡_ {A = Result (List Segment) ImageRefusal} (cond b (Ok []) (Err (LeftOver (length bytes)))) (Ok segments) →
+  at : (b : Bool) → eqb (length bytes) 0 ≡ b → none-read (cond b (Ok tt) (Err (LeftOver (length bytes)))) ≡ Ok segments →
       (bytes ≡ joined segment-bytes segments) × Ascending 0 limit segments
   at true e k =
       let none : segments ≡ [] = cc in

@@ -1,5 +1,5 @@
 pub mod Accepting
-pub mod Loading
+pub mod Loaded
 pub mod Numbers
 pub mod Segments
 pub mod Splits

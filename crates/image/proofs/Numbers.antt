@@ -4,7 +4,11 @@ use mathlib.Core.List.{List, [], _∷_, _++_}
 use Prim.Native.Nat.{ℕ, zero, suc, _+_, _-_, _*_, _/_, _%_, _^_, _≤_, _<_}
 use native.Mathlib.Omega.{arith}
 use native.Mathlib.Nat.{add-assoc}
+use mathlib.Core.Bool.{cond}
+use mathlib.Core.Logic.{inl, inr}
+use lib.Dec.{ltb}
 use lib.ListN.{length, getD, drop}
+use Rattle.std.proofs.shelf.Tests.{cases-lt, lt-ltb, le-ltb, cond-true, cond-false}
 use Rattle.std.proofs.shelf.Lists.{getD-drop, drop-at, drop-drop, length-drop}
 use Rattle.std.proofs.shelf.Elements.{all-drop}
 use Rattle.std.proofs.shelf.Maps.{nth-past}
@@ -33,7 +37,7 @@ length-words (a ∷ (b ∷ [])) = refl
 length-words (a ∷ (b ∷ (c ∷ []))) = refl
 length-words (a ∷ (b ∷ (c ∷ (d ∷ rest)))) = omega (arith, length-words rest)
 
-pub nth-words : (bs : List ℕ) (k : ℕ) → k < length bs / 4 → nth (words-of bs) k ≡ Some (number-at bs (4 * k))
+nth-words : (bs : List ℕ) (k : ℕ) → k < length bs / 4 → nth (words-of bs) k ≡ Some (number-at bs (4 * k))
 nth-words [] k h = absurd (omega arith)
 nth-words (a ∷ []) k h = absurd (omega arith)
 nth-words (a ∷ (b ∷ [])) k h = absurd (omega arith)
@@ -44,8 +48,14 @@ nth-words (a ∷ (b ∷ (c ∷ (d ∷ rest)))) (suc k) h =
     let e : 4 + 4 * k ≡ 4 * suc k = omega arith in
     nth-words rest k (omega arith) ∙ ap Some (number-at-drop 4 (4 * k) bs ∙ ap (number-at bs) e)
 
-pub words-past : (bs : List ℕ) (k : ℕ) → length bs / 4 ≤ k → nth (words-of bs) k ≡ None
+words-past : (bs : List ℕ) (k : ℕ) → length bs / 4 ≤ k → nth (words-of bs) k ≡ None
 words-past bs k h = nth-past (words-of bs) k (omega (arith, length-words bs))
+
+pub word-here : (bs : List ℕ) (k : ℕ) → cond (ltb k (length bs / 4)) (Some (number-at bs (4 * k))) None ≡ nth (words-of bs) k
+word-here bs k = elim (cases-lt k (length bs / 4)) [
+  | inl h ↦ cond-true (ltb k (length bs / 4)) _ _ (lt-ltb k (length bs / 4) h) ∙ sym (nth-words bs k h)
+  | inr h ↦ cond-false (ltb k (length bs / 4)) _ _ (le-ltb k (length bs / 4) h) ∙ sym (words-past bs k h)
+]
 
 -- words are of 32 bits
 pub words-below : (bs : List ℕ) → All (λ v. v < 2 ^ 32) (words-of bs)

@@ -13,6 +13,7 @@ use Rattle.std.specs.declared.result.Result.the-variants.{Ok, Err}
 use Rattle.image.specs.declared.refusal.ImageRefusal.{ImageRefusal}
 use Rattle.image.specs.declared.refusal.ImageRefusal.the-variants.{Cut, Empty, Beyond, Overlap}
 use Rattle.image.specs.Numbers.{words-of}
+use Rattle.image.specs.Views.{Ends}
 use Rattle.image.specs.Reading.{first-of, count-of, before-of, Split, split-off, last-segment}
 
 -- an Ok is no Err
@@ -38,20 +39,21 @@ abbrev parts : ℕ → ℕ → ℕ → ℕ → List ℕ → Result Split ImageRe
 parts low first long start bytes = Ok (record { before = take low bytes; segment = record { first = first; values = words-of (take long (drop start bytes)) } })
 
 -- the same, in the numbers that the code has at hand
-pub split-read : (i limit first count : ℕ) (bytes : List ℕ) → first ≡ first-of bytes → count ≡ count-of bytes →
-    8 ≤ length bytes → (count ≡ 0 → ⊥) → 4 * count ≤ length bytes - 8 → first + count ≤ limit →
+pub split-read : (i limit first count : ℕ) (bytes : List ℕ) → Ends limit bytes first count →
     let start = length bytes - 8 - 4 * count in
     parts (start - 0) first (length bytes - 8 - start) start bytes ≡ last-segment i limit bytes
-split-read i limit first count bytes f c ended some inside fits =
+split-read i limit first count bytes ends =
+    let f = ends .first-is in
+    let c = ends .count-is in
     let start = length bytes - 8 - 4 * count in
     let same : start ≡ before-of bytes = ap (λ n. length bytes - 8 - 4 * n) c in
     let low : start - 0 ≡ before-of bytes = omega (arith, same) in
-    let long : length bytes - 8 - start ≡ 4 * count-of bytes = omega (arith, ap (λ n. 4 * n) c) in
+    let long : length bytes - 8 - start ≡ 4 * count-of bytes = omega (arith, ends .inside, ap (λ n. 4 * n) c) in
     let whole : Whole limit bytes = record {
-      ended = ended;
-      some = λ z. some (c ∙ z);
-      inside = subst (λ n. 4 * n ≤ length bytes - 8) c inside;
-      fits = subst (λ n. n + count-of bytes ≤ limit) f (subst (λ n. first + n ≤ limit) c fits);
+      ended = ends .ended;
+      some = λ z. ends .some (c ∙ z);
+      inside = subst (λ n. 4 * n ≤ length bytes - 8) c (ends .inside);
+      fits = subst (λ n. n + count-of bytes ≤ limit) f (subst (λ n. first + n ≤ limit) c (ends .fits));
     } in
     ap (λ n. parts n first (length bytes - 8 - start) start bytes) low
     ∙ ap (λ n. parts (before-of bytes) n (length bytes - 8 - start) start bytes) f

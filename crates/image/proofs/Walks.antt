@@ -18,11 +18,12 @@ use Rattle.std.specs.declared.option.Option.the-variants.{Some, None}
 use Rattle.std.specs.declared.result.Result.{Result}
 use Rattle.std.specs.declared.result.Result.the-variants.{Ok, Err}
 use Rattle.image.specs.declared.refusal.ImageRefusal.{ImageRefusal}
-use Rattle.image.specs.declared.refusal.ImageRefusal.the-variants.{LeftOver}
 use Rattle.image.specs.Segments.{Segment}
-use Rattle.image.specs.Reading.{Split, last-segment, before-it, followed, walk}
+use Rattle.image.specs.Reading.{Split, last-segment, nothing-left, none-read, before-it, followed, walk}
 use Rattle.std.specs.Results.{isOk}
-use Rattle.image.specs.Views.{picked, accepted}
+use Rattle.std.specs.Vec.{made}
+use Rattle.image.specs.declared.image.Image.{Image}
+use Rattle.image.specs.Views.{picked, accepted, walked, Counted}
 use Rattle.image.proofs.Splits.{apart}
 
 abbrev Read : Type 0
@@ -48,19 +49,29 @@ step i limit bytes segments h = at (last-segment i limit bytes) refl h where
 
 -- a walk gives as many segments as it was asked for
 pub walk-length : (k limit : ℕ) (bytes : List ℕ) (segments : List Segment) → walk k limit bytes ≡ Ok segments → length segments ≡ k
-walk-length zero limit bytes segments h = at (eqb (length bytes) 0) h where
-  at : (b : Bool) → _≡_ {A = Read} (cond b (Ok []) (Err (LeftOver (length bytes)))) (Ok segments) → length segments ≡ 0
-  at true k = let e : segments ≡ [] = cc in ap length e
-  at false k = absurd (apart k refl)
+walk-length zero limit bytes segments h = at (nothing-left bytes) h where
+  at : (r : Result (Unit {0}) ImageRefusal) → none-read r ≡ Ok segments → length segments ≡ 0
+  at (Ok u) k = let e : segments ≡ [] = cc in ap length e
+  at (Err x) k = absurd (apart k refl)
 walk-length (suc i) limit bytes segments h =
     let s = step i limit bytes segments h in
     ap length (s .is) ∙ length-push (s .front) (s .split .segment) ∙ add-one (length (s .front)) ∙ ap suc (walk-length i _ _ (s .front) (s .before))
 
-pub accepted-length : (k limit : ℕ) (bytes : List ℕ) → isOk (walk k limit bytes) ≡ true → k ≡ length (accepted (walk k limit bytes))
+accepted-length : (k limit : ℕ) (bytes : List ℕ) → isOk (walk k limit bytes) ≡ true → k ≡ length (accepted (walk k limit bytes))
 accepted-length k limit bytes h = at (walk k limit bytes) refl h where
   at : (r : Read) → walk k limit bytes ≡ r → isOk r ≡ true → k ≡ length (accepted r)
   at (Ok segments) e ok = sym (walk-length k limit bytes segments e)
   at (Err x) e ok = absurd (false≢true ok)
+
+pub counted : (r : Result Image ImageRefusal) → made r (λ i. isOk (walked i) ≡ true) → made r Counted
+counted (Ok i) h = accepted-length (i .count) (i .size) (i .body .now) h
+counted (Err e) h = tt
+
+pub accepted-most : (k limit : ℕ) (bytes : List ℕ) → length (accepted (walk k limit bytes)) ≤ k
+accepted-most k limit bytes = at (walk k limit bytes) refl where
+  at : (r : Read) → walk k limit bytes ≡ r → length (accepted r) ≤ k
+  at (Ok segments) e = omega (arith, walk-length k limit bytes segments e)
+  at (Err x) e = omega arith
 
 -- what stands at i, once one segment more stands at the end
 nth-push : (xs : List Segment) (x : Segment) (i : ℕ) → (length xs ≡ i → ⊥) → nth (xs ++ (x ∷ [])) i ≡ nth xs i
@@ -80,6 +91,11 @@ abbrev pub merged : Option Segment → ℕ → Read → Result (Option Segment) 
 merged None w r = picked w r
 merged (Some s) w (Ok segments) = Ok (Some s)
 merged (Some s) w (Err e) = Err e
+
+-- what is found, if nothing is left
+abbrev concluded : Option Segment → Result (Unit {0}) ImageRefusal → Result (Option Segment) ImageRefusal
+concluded found (Ok u) = Ok found
+concluded found (Err e) = Err e
 
 -- what is found once the segment number j is seen
 abbrev pub seen : ℕ → ℕ → Segment → Option Segment → Option Segment
@@ -109,13 +125,11 @@ merged-refused None j w limit bytes x e = ap (λ r. picked w (before-it (λ next
 merged-refused (Some t) j w limit bytes x e = ap (λ r. merged (Some t) w (before-it (λ next rest. walk j next rest) r)) e
 
 -- the end of the walk
-merged-none : (found : Option Segment) (w limit : ℕ) (bytes : List ℕ) → length bytes ≡ 0 → merged found w (walk 0 limit bytes) ≡ Ok found
-merged-none None w limit bytes e = ap (λ b. picked w (cond b (Ok []) (Err (LeftOver (length bytes))))) (eq-eqb (length bytes) 0 e)
-merged-none (Some t) w limit bytes e = ap (λ b. merged (Some t) w (cond b (Ok []) (Err (LeftOver (length bytes))))) (eq-eqb (length bytes) 0 e)
-
-merged-left : (found : Option Segment) (w limit : ℕ) (bytes : List ℕ) → (length bytes ≡ 0 → ⊥) → merged found w (walk 0 limit bytes) ≡ Err (LeftOver (length bytes))
-merged-left None w limit bytes e = ap (λ b. picked w (cond b (Ok []) (Err (LeftOver (length bytes))))) (ne-eqb (length bytes) 0 e)
-merged-left (Some t) w limit bytes e = ap (λ b. merged (Some t) w (cond b (Ok []) (Err (LeftOver (length bytes))))) (ne-eqb (length bytes) 0 e)
+merged-none : (found : Option Segment) (w : ℕ) (r : Result (Unit {0}) ImageRefusal) → merged found w (none-read r) ≡ concluded found r
+merged-none None w (Ok u) = refl
+merged-none None w (Err e) = refl
+merged-none (Some t) w (Ok u) = refl
+merged-none (Some t) w (Err e) = refl
 
 -- the same, in the numbers that the code has at hand
 module _ (found : Option Segment) (left w limit : ℕ) (bytes : List ℕ) (answer : Result (Option Segment) ImageRefusal) (a : answer ≡ merged found w (walk left limit bytes)) where
@@ -139,12 +153,13 @@ module _ (found : Option Segment) (left w limit : ℕ) (bytes : List ℕ) (answe
       let one : left ≡ suc (left - 1) = omega arith in
       sym (a ∙ ap (λ n. merged found w (walk n limit bytes)) one ∙ merged-refused found (left - 1) w limit bytes x (sym e))
 
-  pub ended : left ≤ 0 → length bytes ≤ 0 → Ok found ≡ answer
-  ended none empty =
+  closing : (r : Result (Unit {0}) ImageRefusal) → left ≤ 0 → r ≡ nothing-left bytes → concluded found r ≡ answer
+  closing r none e =
       let z : left ≡ 0 = omega arith in
-      sym (a ∙ ap (λ n. merged found w (walk n limit bytes)) z ∙ merged-none found w limit bytes (omega arith))
+      sym (a ∙ ap (λ n. merged found w (walk n limit bytes)) z ∙ merged-none found w (nothing-left bytes) ∙ ap (concluded found) (sym e))
 
-  pub left-over : left ≤ 0 → 0 < length bytes → Err (LeftOver (length bytes)) ≡ answer
-  left-over none some =
-      let z : left ≡ 0 = omega arith in
-      sym (a ∙ ap (λ n. merged found w (walk n limit bytes)) z ∙ merged-left found w limit bytes (λ e. omega arith))
+  pub ended : (u : Unit {0}) → left ≤ 0 → Ok u ≡ nothing-left bytes → Ok found ≡ answer
+  ended u none e = closing (Ok u) none e
+
+  pub left-over : (x : ImageRefusal) → left ≤ 0 → Err x ≡ nothing-left bytes → Err x ≡ answer
+  left-over x none e = closing (Err x) none e

@@ -31,6 +31,7 @@ pub record Split : Type 0 where
   pub before : List ℕ
   pub segment : Segment
 
+-- the bytes so split
 abbrev pub split-off : List ℕ → Split
 split-off bytes = record {
   before = take (before-of bytes) bytes;
@@ -56,9 +57,18 @@ abbrev pub before-it : (ℕ → List ℕ → Result (List Segment) ImageRefusal)
 before-it read (Ok s) = followed (read (s .segment .first) (s .before)) (s .segment)
 before-it read (Err e) = Err e
 
--- so many segments from the last to the first, each limited by the first number of the next one; then no byte may be left over
+-- no byte may be left over
+abbrev pub nothing-left : List ℕ → Result (Unit {0}) ImageRefusal
+nothing-left bytes = cond (eqb (length bytes) 0) (Ok tt) (Err (LeftOver (length bytes)))
+
+-- where no segment is to be read: none, if nothing is left
+abbrev pub none-read : Result (Unit {0}) ImageRefusal → Result (List Segment) ImageRefusal
+none-read (Ok u) = Ok []
+none-read (Err e) = Err e
+
+-- so many segments from the last to the first, each limited by the first number of the next one; then nothing may be left
 abbrev pub walk : ℕ → ℕ → List ℕ → Result (List Segment) ImageRefusal
-walk zero limit bytes = cond (eqb (length bytes) 0) (Ok []) (Err (LeftOver (length bytes)))
+walk zero limit bytes = none-read (nothing-left bytes)
 walk (suc i) limit bytes = before-it (λ next rest. walk i next rest) (last-segment i limit bytes)
 
 -- the trailer is the last 12 bytes: the mark, the number of segments, and back, the number of bytes of all segments

@@ -1,8 +1,14 @@
--- The numbers that the refusals of an image are told by. Assumes nothing.
+-- How the refusals of an image are told: by number, and in words. Assumes nothing.
+use mathlib.Core.List.{List, _++_}
 use Prim.Native.Nat.{ℕ}
+use lib.Chars.{codes}
+use Rattle.std.specs.declared.option.Option.{Option}
+use Rattle.std.specs.declared.option.Option.the-variants.{Some, None}
+use Rattle.std.specs.Written.{decimal}
 use Rattle.image.specs.declared.refusal.ImageRefusal.{ImageRefusal}
 use Rattle.image.specs.declared.refusal.ImageRefusal.the-variants.{Length, Mark, Trailer, Cut, Empty, Beyond, Overlap, LeftOver}
 
+-- the number of a refusal
 abbrev pub refusal-number : ImageRefusal → ℕ
 refusal-number (Length n) = 8
 refusal-number (Mark found) = 9
@@ -12,3 +18,17 @@ refusal-number (Empty segment) = 11
 refusal-number (Beyond segment count left) = 11
 refusal-number (Overlap segment first count limit) = 12
 refusal-number (LeftOver left) = 13
+
+-- its text, which begins with its number; where it shows a mark, which is hexadecimal, nothing is said
+abbrev pub refusal-text : ImageRefusal → Option (List ℕ)
+refusal-text (Length n) = Some (codes "refusal 8: " ++ (decimal n ++ codes " bytes, and an image has 12 to 65536"))
+refusal-text (Mark found) = None
+refusal-text (Trailer segments back before) =
+    Some (codes "refusal 10: " ++ (decimal segments ++ (codes " segments of " ++ (decimal back ++ (codes " bytes, and there may be 64 of the " ++ (decimal before ++ codes " bytes before the trailer"))))))
+refusal-text (Cut segment left) = Some (codes "refusal 11: segment " ++ (decimal segment ++ (codes " has " ++ (decimal left ++ codes " bytes, and needs 8"))))
+refusal-text (Empty segment) = Some (codes "refusal 11: segment " ++ (decimal segment ++ codes " has no words"))
+refusal-text (Beyond segment count left) =
+    Some (codes "refusal 11: segment " ++ (decimal segment ++ (codes " has " ++ (decimal count ++ (codes " words, and there are " ++ (decimal left ++ codes " bytes for them"))))))
+refusal-text (Overlap segment first count limit) =
+    Some (codes "refusal 12: segment " ++ (decimal segment ++ (codes " has " ++ (decimal count ++ (codes " words from number " ++ (decimal first ++ (codes " on, and has to end before number " ++ decimal limit)))))))
+refusal-text (LeftOver left) = Some (codes "refusal 13: " ++ (decimal left ++ codes " bytes are left over before segment 0"))

@@ -1,5 +1,7 @@
 // Why bytes are not read as an image.
 ghost use mathlib.Core.Path.{_≡_};
+ghost use Rattle.image.specs.Refusals.{refusal-number, refusal-text};
+use std::fmt;
 
 // The segments are numbered from 0, the lowest.
 #[derive(Clone, Copy)]
@@ -38,4 +40,79 @@ pub enum ImageRefusal {
     },
     // Bytes of segments are left over before the first one.
     LeftOver(usize),
+}
+
+impl ImageRefusal {
+    // The number that the refusal is told by, 8 to 13.
+    pub fn number(&self) -> u8
+        ensures { λ r. ⌜ r ≡ refusal-number (now (self .entry)) ⌝ }
+    {
+        match self {
+            ImageRefusal::Length(_) => 8,
+            ImageRefusal::Mark(_) => 9,
+            ImageRefusal::Trailer { .. } => 10,
+            ImageRefusal::Cut { .. } | ImageRefusal::Empty { .. } | ImageRefusal::Beyond { .. } =>
+                11,
+            ImageRefusal::Overlap { .. } => 12,
+            ImageRefusal::LeftOver(_) => 13,
+        }
+    }
+}
+
+pub impl fmt::Display for ImageRefusal as ImageRefusalDisplay {
+    ghost shown = { refusal-text };
+
+    fn fmt<W: fmt::Write>(&self, f: &mut fmt::Formatter<W>) -> fmt::Result {
+        match *self {
+            ImageRefusal::Length(length) => {
+                write!(f, "refusal 8: {length} bytes, and an image has 12 to 65536")
+            }
+            ImageRefusal::Mark(found) => {
+                write!(f, "refusal 9: {found:08X} stands for the mark 53524349")
+            }
+            ImageRefusal::Trailer {
+                segments,
+                back,
+                before,
+            } => {
+                write!(
+                    f,
+                    "refusal 10: {segments} segments of {back} bytes, and there may be 64 of the {before} bytes before the trailer"
+                )
+            }
+            ImageRefusal::Cut { segment, left } => {
+                write!(
+                    f,
+                    "refusal 11: segment {segment} has {left} bytes, and needs 8"
+                )
+            }
+            ImageRefusal::Empty { segment } => {
+                write!(f, "refusal 11: segment {segment} has no words")
+            }
+            ImageRefusal::Beyond {
+                segment,
+                count,
+                left,
+            } => {
+                write!(
+                    f,
+                    "refusal 11: segment {segment} has {count} words, and there are {left} bytes for them"
+                )
+            }
+            ImageRefusal::Overlap {
+                segment,
+                first,
+                count,
+                limit,
+            } => {
+                write!(
+                    f,
+                    "refusal 12: segment {segment} has {count} words from number {first} on, and has to end before number {limit}"
+                )
+            }
+            ImageRefusal::LeftOver(left) => {
+                write!(f, "refusal 13: {left} bytes are left over before segment 0")
+            }
+        }
+    }
 }

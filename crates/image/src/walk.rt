@@ -1,18 +1,16 @@
 // The walk over the segments of an image, from the last to the first.
 ghost use mathlib.Core.Path.{_≡_};
-ghost use Rattle.image.specs.Reading.{last-segment, walk as walk-of};
-ghost use Rattle.image.specs.Views.{split-of, picked, part-of};
+ghost use Rattle.std.specs.declared.result.Result.the-variants.{Err};
+ghost use Rattle.std.specs.Results.{Cases};
+ghost use Rattle.image.specs.Reading.{last-segment, nothing-left, walk as walk-of};
+ghost use Rattle.image.specs.Views.{Ends, split-of, picked, part-of};
 use crate::number::number_at;
 use crate::part::ImagePart;
 use crate::refusal::ImageRefusal;
 
-// Takes the segment number `segment`, which may not pass `limit`, off the end of `body`: what stands before it, and the segment.
-fn last_segment(
-    body: &[u8],
-    limit: u32,
-    segment: u32,
-) -> Result<(&[u8], ImagePart<'_>), ImageRefusal>
-    ensures { λ r. ⌜ split-of r ≡ last-segment segment limit (now (body .entry)) ⌝ }
+// The first word number and the count at the end of `body`, of the segment number `segment`, which may not pass `limit`.
+fn segment_end(body: &[u8], limit: u32, segment: u32) -> Result<(u32, u32), ImageRefusal>
+    ensures { λ r. ⌜ Cases r (λ e. Ends limit (now (body .entry)) (e .0) (e .1)) (λ x. last-segment segment limit (now (body .entry)) ≡ Err x) ⌝ }
 {
     let length = body.len();
     if length < 8 {
@@ -42,9 +40,32 @@ fn last_segment(
             limit,
         });
     }
-    let start = left - 4 * count as usize;
-    let words = &body[start..left];
+    Ok((first, count))
+}
+
+// Takes that segment off: what stands before it, and the segment.
+fn last_segment(
+    body: &[u8],
+    limit: u32,
+    segment: u32,
+) -> Result<(&[u8], ImagePart<'_>), ImageRefusal>
+    ensures { λ r. ⌜ split-of r ≡ last-segment segment limit (now (body .entry)) ⌝ }
+{
+    let (first, count) = segment_end(body, limit, segment)?;
+    let end = body.len() - 8;
+    let start = end - 4 * count as usize;
+    let words = &body[start..end];
     Ok((&body[0..start], ImagePart { first, words }))
+}
+
+// Refuses bytes that are left over.
+fn whole(rest: &[u8]) -> Result<(), ImageRefusal>
+    ensures { λ r. ⌜ r ≡ nothing-left (now (rest .entry)) ⌝ }
+{
+    if rest.len() > 0 {
+        return Err(ImageRefusal::LeftOver(rest.len()));
+    }
+    Ok(())
 }
 
 // Goes over the `count` segments of `body` from the last to the first, and gives the one numbered `wanted`.
@@ -69,8 +90,6 @@ pub(crate) fn walk(
         limit = part.first;
         rest = before;
     }
-    if rest.len() > 0 {
-        return Err(ImageRefusal::LeftOver(rest.len()));
-    }
+    whole(rest)?;
     Ok(found)
 }

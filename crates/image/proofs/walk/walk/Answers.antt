@@ -12,15 +12,17 @@ returns-in-Break-before c =
     let refused = turned-down (mapped segment-of (l .found)) (l .left) (c .args .wanted) (l .limit) (l .rest .now) _ (l .inv .0) _ (c .loop-left-test .taken) (c .in-Break-before .ensures tt) in
     rw (p .1, p .2) refused
 
-pub returns-then-rest-gt0 : need.returns-then-rest-gt0
-returns-then-rest-gt0 c =
+pub returns-in-Break-whole : need.returns-in-Break-whole
+returns-in-Break-whole c =
     let l = c .loop-left in
-    left-over (mapped segment-of (l .found)) (l .left) (c .args .wanted) (l .limit) (l .rest .now) _ (l .inv .0) (c .loop-left-test .left) (c .if-rest-gt0 .taken)
+    let p = err-from-errBy (c .from-residual-in-Break-whole .result) (c .from-residual-in-Break-whole .ensures .1) in
+    let refused = left-over (mapped segment-of (l .found)) (l .left) (c .args .wanted) (l .limit) (l .rest .now) _ (l .inv .0) _ (c .loop-left-test .left) (c .in-Break-whole .ensures tt) in
+    rw (p .1, p .2) refused
 
 pub returns : need.returns
 returns c =
     let l = c .loop-left in
-    ended (mapped segment-of (l .found)) (l .left) (c .args .wanted) (l .limit) (l .rest .now) _ (l .inv .0) (c .loop-left-test .left) (c .if-rest-gt0 .left)
+    ended (mapped segment-of (l .found)) (l .left) (c .args .wanted) (l .limit) (l .rest .now) _ (l .inv .0) _ (c .loop-left-test .left) (c .in-Continue-whole .ensures tt)
 
 pub loop-left-again : need.loop-left-again
 loop-left-again c =
