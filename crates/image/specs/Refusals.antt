@@ -19,16 +19,16 @@ refusal-number (Beyond segment count left) = 11
 refusal-number (Overlap segment first count limit) = 12
 refusal-number (LeftOver left) = 13
 
--- its text, which begins with its number; where it shows a mark, which is hexadecimal, nothing is said
+-- its reason in words; of the one that shows a mark, which is hexadecimal, nothing is said
 abbrev pub refusal-text : ImageRefusal → Option (List ℕ)
-refusal-text (Length n) = Some (codes "refusal 8: " ++ (decimal n ++ codes " bytes, and an image has 12 to 65536"))
+refusal-text (Length n) = Some (decimal n ++ codes " bytes, and an image has 12 to 65536")
 refusal-text (Mark found) = None
 refusal-text (Trailer segments back before) =
-    Some (codes "refusal 10: " ++ (decimal segments ++ (codes " segments of " ++ (decimal back ++ (codes " bytes, and there may be 64 of the " ++ (decimal before ++ codes " bytes before the trailer"))))))
-refusal-text (Cut segment left) = Some (codes "refusal 11: segment " ++ (decimal segment ++ (codes " has " ++ (decimal left ++ codes " bytes, and needs 8"))))
-refusal-text (Empty segment) = Some (codes "refusal 11: segment " ++ (decimal segment ++ codes " has no words"))
+    Some (decimal segments ++ (codes " segments of " ++ (decimal back ++ (codes " bytes, and there may be 64 of the " ++ (decimal before ++ codes " bytes before the trailer")))))
+refusal-text (Cut segment left) = Some (codes "segment " ++ (decimal segment ++ (codes " has " ++ (decimal left ++ codes " bytes, and needs 8"))))
+refusal-text (Empty segment) = Some (codes "segment " ++ (decimal segment ++ codes " has no words"))
 refusal-text (Beyond segment count left) =
-    Some (codes "refusal 11: segment " ++ (decimal segment ++ (codes " has " ++ (decimal count ++ (codes " words, and there are " ++ (decimal left ++ codes " bytes for them"))))))
+    Some (codes "segment " ++ (decimal segment ++ (codes " has " ++ (decimal count ++ (codes " words, and there are " ++ (decimal left ++ codes " bytes for them"))))))
 refusal-text (Overlap segment first count limit) =
-    Some (codes "refusal 12: segment " ++ (decimal segment ++ (codes " has " ++ (decimal count ++ (codes " words from number " ++ (decimal first ++ (codes " on, and has to end before number " ++ decimal limit)))))))
-refusal-text (LeftOver left) = Some (codes "refusal 13: " ++ (decimal left ++ codes " bytes are left over before segment 0"))
+    Some (codes "segment " ++ (decimal segment ++ (codes " has " ++ (decimal count ++ (codes " words from number " ++ (decimal first ++ (codes " on, and has to end before number " ++ decimal limit)))))))
+refusal-text (LeftOver left) = Some (decimal left ++ codes " bytes are left over before segment 0")

@@ -65,11 +65,9 @@ pub impl fmt::Display for ImageRefusal as ImageRefusalDisplay {
     fn fmt<W: fmt::Write>(&self, f: &mut fmt::Formatter<W>) -> fmt::Result {
         match *self {
             ImageRefusal::Length(length) => {
-                write!(f, "refusal 8: {length} bytes, and an image has 12 to 65536")
+                write!(f, "{length} bytes, and an image has 12 to 65536")
             }
-            ImageRefusal::Mark(found) => {
-                write!(f, "refusal 9: {found:08X} stands for the mark 53524349")
-            }
+            ImageRefusal::Mark(found) => { write!(f, "{found:08X} stands for the mark 53524349") }
             ImageRefusal::Trailer {
                 segments,
                 back,
@@ -77,18 +75,13 @@ pub impl fmt::Display for ImageRefusal as ImageRefusalDisplay {
             } => {
                 write!(
                     f,
-                    "refusal 10: {segments} segments of {back} bytes, and there may be 64 of the {before} bytes before the trailer"
+                    "{segments} segments of {back} bytes, and there may be 64 of the {before} bytes before the trailer"
                 )
             }
             ImageRefusal::Cut { segment, left } => {
-                write!(
-                    f,
-                    "refusal 11: segment {segment} has {left} bytes, and needs 8"
-                )
+                write!(f, "segment {segment} has {left} bytes, and needs 8")
             }
-            ImageRefusal::Empty { segment } => {
-                write!(f, "refusal 11: segment {segment} has no words")
-            }
+            ImageRefusal::Empty { segment } => { write!(f, "segment {segment} has no words") }
             ImageRefusal::Beyond {
                 segment,
                 count,
@@ -96,7 +89,7 @@ pub impl fmt::Display for ImageRefusal as ImageRefusalDisplay {
             } => {
                 write!(
                     f,
-                    "refusal 11: segment {segment} has {count} words, and there are {left} bytes for them"
+                    "segment {segment} has {count} words, and there are {left} bytes for them"
                 )
             }
             ImageRefusal::Overlap {
@@ -107,11 +100,11 @@ pub impl fmt::Display for ImageRefusal as ImageRefusalDisplay {
             } => {
                 write!(
                     f,
-                    "refusal 12: segment {segment} has {count} words from number {first} on, and has to end before number {limit}"
+                    "segment {segment} has {count} words from number {first} on, and has to end before number {limit}"
                 )
             }
             ImageRefusal::LeftOver(left) => {
-                write!(f, "refusal 13: {left} bytes are left over before segment 0")
+                write!(f, "{left} bytes are left over before segment 0")
             }
         }
     }

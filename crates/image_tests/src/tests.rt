@@ -75,7 +75,7 @@ fn lengths(rt: LibcRuntime) -> Result<(), Fail> {
         heap,
         b"RCI\0\0\0\0\0\0\0\0",
         0,
-        "refusal 8: 11 bytes, and an image has 12 to 65536",
+        "11 bytes, and an image has 12 to 65536",
     )?;
     tells(heap, &bytes(heap, 3, &TWO_WORDS)?, 2, "segments: 1")?;
     tells(heap, &bytes(heap, 65_508, &TWO_WORDS)?, 2, "segments: 1")?;
@@ -83,7 +83,7 @@ fn lengths(rt: LibcRuntime) -> Result<(), Fail> {
         heap,
         &bytes(heap, 65_509, &TWO_WORDS)?,
         2,
-        "refusal 8: 65537 bytes, and an image has 12 to 65536",
+        "65537 bytes, and an image has 12 to 65536",
     )
 }
 
@@ -94,21 +94,21 @@ fn trailers(rt: LibcRuntime) -> Result<(), Fail> {
         heap,
         &[1, 0, 1, 0x53524348, 1, 12],
         1,
-        "refusal 9: 53524348 stands for the mark 53524349",
+        "53524348 stands for the mark 53524349",
     )?;
     reads(heap, &many(heap, 64)?, 64, "segments: 64")?;
     reads(
         heap,
         &many(heap, 65)?,
         65,
-        "refusal 10: 65 segments of 780 bytes, and there may be 64 of the 780 bytes before the trailer",
+        "65 segments of 780 bytes, and there may be 64 of the 780 bytes before the trailer",
     )?;
     reads(heap, &[1, 0, 1, MARK, 1, 12], 1, "segments: 1")?;
     reads(
         heap,
         &[1, 0, 1, MARK, 1, 13],
         1,
-        "refusal 10: 1 segments of 13 bytes, and there may be 64 of the 12 bytes before the trailer",
+        "1 segments of 13 bytes, and there may be 64 of the 12 bytes before the trailer",
     )
 }
 
@@ -119,32 +119,27 @@ fn segments(rt: LibcRuntime) -> Result<(), Fail> {
         heap,
         &[1, 0, 1, MARK, 1, 7],
         1,
-        "refusal 11: segment 0 has 7 bytes, and needs 8",
+        "segment 0 has 7 bytes, and needs 8",
     )?;
-    reads(
-        heap,
-        &[0, 0, MARK, 1, 8],
-        1,
-        "refusal 11: segment 0 has no words",
-    )?;
+    reads(heap, &[0, 0, MARK, 1, 8], 1, "segment 0 has no words")?;
     reads(
         heap,
         &[1, 0, 2, MARK, 1, 12],
         2,
-        "refusal 11: segment 0 has 2 words, and there are 4 bytes for them",
+        "segment 0 has 2 words, and there are 4 bytes for them",
     )?;
     reads(
         heap,
         &[1, 1, 1, MARK, 1, 12],
         1,
-        "refusal 12: segment 0 has 1 words from number 1 on, and has to end before number 1",
+        "segment 0 has 1 words from number 1 on, and has to end before number 1",
     )?;
     reads(heap, &[1, 1, 1, MARK, 1, 12], 2, "segments: 1")?;
     reads(
         heap,
         &[2, 1, 0, 1, MARK, 1, 16],
         1,
-        "refusal 13: 4 bytes are left over before segment 0",
+        "4 bytes are left over before segment 0",
     )
 }
 
@@ -156,27 +151,27 @@ fn order(rt: LibcRuntime) -> Result<(), Fail> {
         heap,
         &[1, 2, 4, 2, 3, 5, 1, MARK, 2, 28],
         7,
-        "refusal 12: segment 0 has 2 words from number 4 on, and has to end before number 5",
+        "segment 0 has 2 words from number 4 on, and has to end before number 5",
     )?;
     // the last segment passes the size and the first has no words: the last decides
     reads(
         heap,
         &[1, 2, 4, 0, 3, 6, 1, MARK, 2, 28],
         6,
-        "refusal 12: segment 1 has 1 words from number 6 on, and has to end before number 6",
+        "segment 1 has 1 words from number 6 on, and has to end before number 6",
     )?;
     reads(
         heap,
         &[1, 2, 4, 0, 3, 6, 1, MARK, 2, 28],
         7,
-        "refusal 11: segment 0 has no words",
+        "segment 0 has no words",
     )?;
     // words that are not there and that pass the size: 11 comes before 12
     reads(
         heap,
         &[1, 0, 2, MARK, 1, 12],
         1,
-        "refusal 11: segment 0 has 2 words, and there are 4 bytes for them",
+        "segment 0 has 2 words, and there are 4 bytes for them",
     )
 }
 

@@ -50,7 +50,7 @@ fn list_file(rt: &LibcRuntime) -> Result<(), AnyError> {
     match read(&bytes, SIZE) {
         Ok(image) => list_image(rt, &image),
         Err(refusal) => {
-            println!(rt, "{refusal}")?;
+            println!(rt, "refused {} ({refusal})", refusal.number())?;
             Err("the file holds no image".into())
         }
     }
