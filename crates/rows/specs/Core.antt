@@ -66,14 +66,21 @@ alu w x y =
 abbrev pub up : ℕ → ℕ
 up t = cond (ltb t 7) (suc t) 7
 
--- the core after a step whose bus has v, where the memory has the word got at MA: every right side is read in s
+-- what MD has after a read, and the words after a write: the word at MA is number MA / 4
+abbrev pub held : ℕ → Core → List ℕ → ℕ
+held w s ws = cond (gives w Read) (getD ws (s .ma / 4) 0) (s .md)
+
+abbrev pub written : ℕ → Core → List ℕ → List ℕ
+written w s ws = cond (gives w Write) (set ws (s .ma / 4) (s .md)) ws
+
+-- the core after a step whose bus has v and whose read, if any, leaves d for MD: every right side is read in s
 abbrev pub stored : ℕ → ℕ → ℕ → Core → Core
-stored w v got s = record {
+stored w v d s = record {
   pc = cond (gives w PcIn) v (cond (gives w ConPcIn) (cond (s .con) v (s .pc)) (s .pc));
   regs = cond (gives w RIn) (set (s .regs) (selected w (s .ir)) v) (s .regs);
   ir = cond (gives w IrIn) v (s .ir);
   ma = cond (gives w MaIn) v (s .ma);
-  md = cond (gives w MdIn) v (cond (gives w Read) got (s .md));
+  md = cond (gives w MdIn) v d;
   a = cond (gives w AIn) v (s .a);
   c = cond (gives w CIn) (alu w (s .a) v) (s .c);
   n = cond (gives w Ld) (v % 32) (cond (gives w Decr) ((s .n + 31) % 32) (s .n));
@@ -108,10 +115,9 @@ abbrev pub closed : Bool → Bool → Core → List ℕ → Outcome
 closed true stops s ws = done stops s ws
 closed false stops s ws = more s ws
 
--- the step itself, with the memory's word at MA
+-- the step itself
 abbrev pub carried-out : ℕ → Core → List ℕ → Outcome
-carried-out w s ws =
-    closed (gives w End) (gives w Stop) (stored w (bus w s) (getD ws (s .ma / 4) 0) s) (cond (gives w Write) (set ws (s .ma / 4) (s .md)) ws)
+carried-out w s ws = closed (gives w End) (gives w Stop) (stored w (bus w s) (held w s ws) s) (written w s ws)
 
 -- a fault changes nothing of the core but T, which becomes 0; its address is in MA, the instruction's too until T5
 abbrev pub refused : Cause → Core → List ℕ → Outcome
