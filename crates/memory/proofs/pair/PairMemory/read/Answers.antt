@@ -1,0 +1,24 @@
+use borrow.Author.Needs.{needs}
+use native.Mathlib.Omega.{arith}
+use Rattle.memory.proofs.Joined.{joined-length, first-word, second-word}
+use Rattle.memory.proofs.pair.PairMemory.read.Needs as need
+
+pub returns-then-number-size : need.returns-then-number-size
+returns-then-number-size g c =
+    let p = c .args .self .now in
+    let l = joined-length (g .A·Memory .words (p .first)) (g .B·Memory .words (p .second)) in
+    let f = g .A·Memory .laws .few (p .first) in
+    search needs
+
+pub returns-then-number-front : need.returns-then-number-front
+returns-then-number-front g c =
+    let p = c .args .self .now in
+    let e = first-word (g .A·Memory .words (p .first)) (g .B·Memory .words (p .second)) (c .args .number) (omega arith) (omega arith) in
+    search needs
+
+pub returns-else-number-front : need.returns-else-number-front
+returns-else-number-front g c =
+    let p = c .args .self .now in
+    let e = second-word (g .A·Memory .words (p .first)) (g .B·Memory .words (p .second)) (c .args .number) (omega arith) (omega arith) in
+    let l = joined-length (g .A·Memory .words (p .first)) (g .B·Memory .words (p .second)) in
+    search needs

@@ -1,0 +1,14 @@
+// The one-bus core: its registers, its control store, and one control step over any memory.
+mod control;
+mod core;
+mod datapath;
+mod fault;
+mod progress;
+mod step;
+
+pub use control::ControlWord;
+pub use core::Core;
+pub use fault::Cause;
+pub use fault::CauseFromMemoryFault;
+pub use fault::CoreFault;
+pub use progress::Progress;
