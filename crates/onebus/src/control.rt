@@ -3,6 +3,7 @@ ghost use mathlib.Core.Path.{_≡_};
 ghost use Rattle.rows.specs.Signals.{gives};
 ghost use Rattle.rows.specs.Core.{met, touches};
 ghost use Rattle.onebus.specs.Steps.{progress-of};
+ghost use Rattle.onebus.specs.Words.{word-in-row};
 use crate::progress::Progress;
 use rows::Signal;
 
@@ -208,7 +209,7 @@ const SHC_ONCE: u64 = N_IS_NOT_ZERO | C_OUT | SHC | C_IN | DECR | GOTO6;
 const NONE: u64 = 0;
 
 /// Our control store: the control word of each code at each step, at code * 8 + step.
-pub static CONTROL_STORE: [u64; 256] = [
+pub(crate) static CONTROL_STORE: [u64; 256] = [
     // 0 nop
     FETCH,
     FETCH_READ,
@@ -498,3 +499,14 @@ pub static CONTROL_STORE: [u64; 256] = [
     NONE,
     NONE,
 ];
+
+/// The control word of a code at a step, where there are such a code and step.
+pub fn control_word(code: u8, step: u8) -> Option<ControlWord>
+    ensures { λ r. ⌜ r ≡ word-in-row code step ⌝ }
+{
+    if code < 32 && step < 8 {
+        Some(ControlWord(CONTROL_STORE[code as usize * 8 + step as usize]))
+    } else {
+        None
+    }
+}

@@ -8,7 +8,7 @@ ghost use Rattle.isa.specs.declared.operation.Shift.the-variants as by-places;
 ghost use Rattle.rows.specs.Core.{selected, bus as bus-of, alu as alu-of, up, stored};
 ghost use Rattle.rows.specs.declared.signal.Signal.the-variants.{PcIn, ConPcIn, CIn, ConIn, Ld, Decr, Goto6, End};
 ghost use Rattle.rows.specs.Signals.{gives};
-ghost use Rattle.onebus.specs.View.{core-of, with-register};
+ghost use Rattle.onebus.specs.View.{core-of};
 use crate::control::ControlWord;
 use crate::core::Core;
 use rows::Signal;
@@ -228,15 +228,6 @@ impl Core {
             0
         } else {
             raised(self.t)
-        }
-    }
-
-    /// Sets a register, where there is one of that number.
-    pub fn set_register(&mut self, i: usize, value: u32)
-        ensures { λ _. ⌜ core-of (now (self .exit)) ≡ with-register (core-of (now (self .entry))) i value ⌝ }
-    {
-        if i < 32 {
-            self.regs[i] = value;
         }
     }
 

@@ -1,8 +1,10 @@
 // Why a step cannot be done.
 ghost use mathlib.Core.Path.{_≡_};
 ghost use Rattle.onebus.specs.declared.fault.Cause.the-variants.{NoWord};
-ghost use Rattle.onebus.specs.Faults.{number-of};
+ghost use Rattle.std.specs.declared.option.Option.the-variants.{Some};
+ghost use Rattle.onebus.specs.Faults.{number-of, cause-text, fault-text};
 use memory::MemoryFault;
+use std::fmt;
 
 /// The operation is unassigned, the address is no multiple of four, or the memory has no word of that number.
 #[derive(Clone, Copy)]
@@ -38,5 +40,40 @@ impl Cause {
             Cause::Unaligned => 18,
             Cause::NoWord(_) => 19,
         }
+    }
+}
+
+pub impl fmt::Display for Cause as CauseDisplay {
+    ghost shown = { λ e. Some (cause-text e) };
+
+    fn fmt<W: fmt::Write>(&self, f: &mut fmt::Formatter<W>) -> fmt::Result {
+        match *self {
+            Cause::Unassigned => write!(f, "the operation is unassigned"),
+            Cause::Unaligned => write!(f, "the address is no multiple of four"),
+            Cause::NoWord(fault) => {
+                write!(
+                    f,
+                    "a memory of {} words has no word {}",
+                    fault.size, fault.number
+                )
+            }
+        }
+    }
+}
+
+pub impl fmt::Display for CoreFault as CoreFaultDisplay {
+    ghost shown = { λ f. Some (fault-text f) };
+
+    fn fmt<W: fmt::Write>(&self, f: &mut fmt::Formatter<W>) -> fmt::Result {
+        let CoreFault {
+            cause,
+            address,
+            step,
+        } = *self;
+        let number = cause.number();
+        write!(
+            f,
+            "fault {number} at address {address} in step {step}: {cause}"
+        )
     }
 }

@@ -4,11 +4,15 @@ mod core;
 mod datapath;
 mod fault;
 mod progress;
+mod state;
 mod step;
 
 pub use control::ControlWord;
+pub use control::control_word;
 pub use core::Core;
 pub use fault::Cause;
+pub use fault::CauseDisplay;
 pub use fault::CauseFromMemoryFault;
 pub use fault::CoreFault;
+pub use fault::CoreFaultDisplay;
 pub use progress::Progress;
