@@ -6,13 +6,13 @@ ghost use Rattle.rows.specs.Rows.{table};
 ghost use Rattle.rows.specs.Core.{bus, stored, at-step, rowless, control-at};
 ghost use Rattle.onebus.specs.View.{core-of};
 ghost use Rattle.onebus.specs.Steps.{progress-of, Reads, Writes, Accesses, Stepped};
-use crate::control::CONTROL_STORE;
 use crate::control::ControlWord;
 use crate::core::Core;
 use crate::datapath::raised;
 use crate::fault::Cause;
 use crate::fault::CauseFromMemoryFault;
 use crate::fault::CoreFault;
+use crate::microcode::control_store;
 use crate::progress::Progress;
 use memory::Memory;
 use rows::Signal;
@@ -22,7 +22,7 @@ impl Core {
     pub fn control_word(&self) -> ControlWord
         ensures { λ r. ⌜ r .0 ≡ control-at table (core-of (now (self .entry))) ⌝ }
     {
-        ControlWord(CONTROL_STORE[(self.ir >> 27) as usize * 8 + self.t as usize])
+        ControlWord(control_store()[(self.ir >> 27) as usize * 8 + self.t as usize])
     }
 
     /// Has the operation no row? Its control word in T3 is empty.

@@ -1,5 +1,6 @@
 use mathlib.Core.Path.{_≡_, sym, _∙_, ap}
 use mathlib.Core.Bool.{Bool, true, cond, _&&_}
+use mathlib.Core.List.{List}
 use Prim.Native.Nat.{ℕ, _+_, _*_, _<_}
 use native.Mathlib.Omega.{arith}
 use lib.Dec.{ltb}
@@ -13,7 +14,7 @@ use Rattle.rows.specs.Rows.{table}
 use Rattle.rows.proofs.Table.{at-row}
 use Rattle.onebus.specs.declared.control.ControlWord.{ControlWord}
 use Rattle.onebus.specs.Words.{word-in-row}
-use Rattle.onebus.proofs.control.control_word.Needs as need
+use Rattle.onebus.proofs.microcode.control_word.Needs as need
 
 by-row : (code t : ℕ) → code < 32 → t < 8 → Some (record { 0 = getD table (code * 8 + t) 0 }) ≡ word-in-row code t
 by-row code t h l =
@@ -21,10 +22,9 @@ by-row code t h l =
     ap (λ (x : ℕ). Some (record { 0 = x })) (at-row code t h l)
     ∙ sym (ap (λ (b : Bool). cond (b && ltb t 8) w None) (lt-ltb code 32 h) ∙ ap (λ (b : Bool). cond b w None) (lt-ltb t 8 l))
 
--- the whole array is the rows
 pub returns-then-step-lt8 : need.returns-then-step-lt8
-unfolding table
 returns-then-step-lt8 c =
     let h : c .args .code < 32 = omega arith in
     let l : c .args .step < 8 = omega arith in
-    by-row (c .args .code) (c .args .step) h l
+    ap (λ (ws : List ℕ). Some (record { 0 = getD ws (c .args .code * 8 + c .args .step) 0 })) (c .control-store .ensures)
+    ∙ by-row (c .args .code) (c .args .step) h l
