@@ -39,7 +39,10 @@ changed k p rs t = record {
   t = t;
 }
 
--- with PC and T zeroed; with R0 to R31 too; and with another value in register i, where there is one
+-- with R0 to R31 zeroed; with PC and T zeroed; with all of them zeroed; and with another value in register i, where there is one
+abbrev pub cleared : model.Core → model.Core
+cleared k = changed k (k .pc) (replicate 32 0) (k .t)
+
 abbrev pub restarted : model.Core → model.Core
 restarted k = changed k 0 (k .regs) 0
 

@@ -5,7 +5,8 @@ mod datapath;
 mod fault;
 mod microcode;
 mod progress;
-mod state;
+mod questions;
+mod settings;
 mod step;
 
 pub use control::ControlWord;

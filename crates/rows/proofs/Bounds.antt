@@ -3,6 +3,8 @@ use mathlib.Core.Path.{_≡_, refl, sym, subst}
 use mathlib.Core.Bool.{Bool}
 use Prim.Native.Nat.{ℕ, _+_, _<_, _≤_}
 use native.Mathlib.Omega.{arith}
+use native.Mathlib.Nat.{le-trans}
+use lib.Dec.{T, leb, leb→le}
 use lib.ListN.{length}
 use Rattle.isa.specs.declared.operation.Transfer.the-variants.{Load, Store, Address}
 use Rattle.isa.specs.Operations.{Op, decoded-op}
@@ -50,6 +52,8 @@ finishing : (x : Access) (v : Visible) → Finished (begun x v) → (4 ≤ begun
 finishing fit v f = op-bounds (decoded-op (fetched v)) (fetched v) (raised v)
 finishing (unfit e) v f = absurd f
 
-pub finishes-within : Finishes-within 4 39
+pub finishes-within : (low high : ℕ) → T (leb low 4) → T (leb 39 high) → Finishes-within low high
 unfolding instruction clocks
-finishes-within v v′ stops e = finishing (access (v .pc) (length (v .words))) v (subst Finished (sym e) tt)
+finishes-within low high l h v v′ stops e =
+    let b = finishing (access (v .pc) (length (v .words))) v (subst Finished (sym e) tt) in
+    (le-trans (leb→le low 4 l) (b .0), le-trans (b .1) (leb→le 39 high h))

@@ -49,8 +49,8 @@ abbrev pub at-code : ℕ → ℕ → ℕ
 at-code code t = getD table (code * 8 + t) 0
 
 -- every control word of our control store keeps the rule
-abbrev pub Every-step : (ℕ → ℕ → Bool) → Type 0
-Every-step rule = (code t : ℕ) → code < 32 → t < 8 → rule t (at-code code t) ≡ true
+pub record Every-step (rule : ℕ → ℕ → Bool) : Type 0 where
+  pub keeps : (code t : ℕ) → code < 32 → t < 8 → rule t (at-code code t) ≡ true
 
 -- the control word ends the instruction whatever n is
 abbrev pub ends : ℕ → Bool
@@ -62,13 +62,6 @@ ends-by-seven code =
     eqb (at-code code 3) 0 || (ends (at-code code 3) || (ends (at-code code 4)
     || (ends (at-code code 5) || (ends (at-code code 6) || ends (at-code code 7)))))
 
-pub record Rules : Type 0 where
-  pub one-gate : Every-step (one-at-most gates)
-  pub one-select : Every-step (one-at-most selects)
-  pub one-function : Every-step (one-at-most functions)
-  pub waited-for : Every-step reads-or-writes
-  pub register-at-end : Every-step (only-with-end RIn)
-  pub write-at-end : Every-step (only-with-end Write)
-  pub stop-at-end : Every-step (only-with-end Stop)
-  pub loops-in-six : Every-step goes-to-six
-  pub every-row-ends : (code : ℕ) → code < 32 → ends-by-seven code ≡ true
+-- every code of our control store keeps the rule
+pub record Every-code (rule : ℕ → Bool) : Type 0 where
+  pub keeps : (code : ℕ) → code < 32 → rule code ≡ true
