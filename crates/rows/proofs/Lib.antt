@@ -1,0 +1,12 @@
+pub mod Table
+pub mod Rules
+pub mod Runs
+pub mod Alu
+pub mod Transfers
+pub mod Places
+pub mod Shifts
+pub mod Refining
+pub mod Kept
+pub mod Whole
+pub mod Bounds
+pub mod Moves
