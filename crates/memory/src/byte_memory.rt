@@ -8,6 +8,7 @@ ghost use Rattle.memory.specs.ByteMemory.{packed-word, packed, bytes-used, byt
 ghost use Rattle.memory.specs.Lawful.{byte-laws};
 use crate::memory::Memory;
 use crate::memory::MemoryFault;
+use crate::memory::admit;
 use crate::memory::capped;
 
 #[derive(Drop)]
@@ -88,21 +89,13 @@ pub impl<'a> Memory for ByteMemory<'a> as ByteMemoryMemory {
     }
 
     fn read(&mut self, number: u32) -> Result<u32, MemoryFault> {
-        let size = self.count();
-        if number < size {
-            Ok(self.word(number))
-        } else {
-            Err(MemoryFault { number, size })
-        }
+        admit(number, self.count())?;
+        Ok(self.word(number))
     }
 
     fn write(&mut self, number: u32, value: u32) -> Result<(), MemoryFault> {
-        let size = self.count();
-        if number < size {
-            self.put(number, value);
-            Ok(())
-        } else {
-            Err(MemoryFault { number, size })
-        }
+        admit(number, self.count())?;
+        self.put(number, value);
+        Ok(())
     }
 }

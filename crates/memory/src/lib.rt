@@ -1,5 +1,6 @@
 //! Memories of words with delays: one meaning, five memories, and any pile of them.
 mod byte_memory;
+mod delays;
 mod edits;
 mod memory;
 mod open_row;

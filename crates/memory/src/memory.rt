@@ -1,8 +1,9 @@
 // What every memory means, and what its calls promise.
 ghost use mathlib.Core.Path.{_≡_};
 ghost use mathlib.Core.List.{List};
-ghost use Prim.Native.Nat.{ℕ, min};
+ghost use Prim.Native.Nat.{ℕ, _≤_, _<_, min};
 ghost use lib.ListN.{length};
+ghost use Rattle.std.specs.Results.{Cases};
 ghost use Rattle.memory.specs.Memory.{Loan, Laws, Asked, Read, Written};
 
 /// At most this many words are in a memory.
@@ -43,6 +44,17 @@ pub trait Memory {
     /// Replaces the word, or refuses.
     fn write(&mut self, number: u32, value: u32) -> Result<(), MemoryFault>
         ensures { λ r. ⌜ Written words delay frame (now (self .entry)) number value r (now (self .exit)) ⌝ };
+}
+
+/// Refuses a number that is not below `size`.
+pub(crate) fn admit(number: u32, size: u32) -> Result<(), MemoryFault>
+    ensures { λ r. ⌜ Cases r (λ _. number < size) (λ fault. (size ≤ number) × (fault ≡ record { number = number; size = size })) ⌝ }
+{
+    if number < size {
+        Ok(())
+    } else {
+        Err(MemoryFault { number, size })
+    }
 }
 
 /// `count` as the size of a memory.

@@ -5,6 +5,7 @@ ghost use Rattle.memory.specs.Delays.{slower};
 ghost use Rattle.memory.specs.Memory.{Read, Written};
 ghost use Rattle.memory.specs.OpenRow.{off-row, row-after, row-over, row-words, row-delay, row-frame};
 ghost use Rattle.memory.specs.Lawful.{row-laws};
+use crate::delays::slower_delay;
 use crate::memory::Memory;
 use crate::memory::MemoryFault;
 
@@ -68,11 +69,8 @@ pub impl<M: Memory> Memory for OpenRow<M> as OpenRowMemory {
     }
 
     fn delay(&mut self, number: u32) -> u8 {
-        if number >= self.below.size() {
-            return 0;
-        }
         let extra = self.extra_for(number);
-        self.below.delay(number).saturating_add(extra)
+        slower_delay(&mut self.below, number, extra)
     }
 
     fn read(&mut self, number: u32) -> Result<u32, MemoryFault>

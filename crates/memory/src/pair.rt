@@ -8,6 +8,7 @@ ghost use Rattle.memory.specs.Lawful.{pair-laws};
 use crate::memory::MOST_WORDS;
 use crate::memory::Memory;
 use crate::memory::MemoryFault;
+use crate::memory::admit;
 
 #[derive(Drop)]
 pub struct Pair<A, B> {
@@ -77,9 +78,8 @@ pub impl<A: Memory, B: Memory> Memory for Pair<A, B> as PairMemory {
         ensures parts { λ r. ⌜ Reached A·Memory B·Memory (now (self .entry)) (now (self .exit)) number (Read (A·Memory .words) (A·Memory .delay) (A·Memory .frame) (now (self .entry) .first) number r (now (self .exit) .first)) (λ n. Read (B·Memory .words) (B·Memory .delay) (B·Memory .frame) (now (self .entry) .second) n r (now (self .exit) .second)) ⌝ }
     {
         let (front, size) = self.sizes();
-        if number >= size {
-            Err(MemoryFault { number, size })
-        } else if number < front {
+        admit(number, size)?;
+        if number < front {
             self.first.read(number)
         } else {
             self.second.read(number - front)
@@ -91,9 +91,8 @@ pub impl<A: Memory, B: Memory> Memory for Pair<A, B> as PairMemory {
         ensures parts { λ r. ⌜ Reached A·Memory B·Memory (now (self .entry)) (now (self .exit)) number (Written (A·Memory .words) (A·Memory .delay) (A·Memory .frame) (now (self .entry) .first) number value r (now (self .exit) .first)) (λ n. Written (B·Memory .words) (B·Memory .delay) (B·Memory .frame) (now (self .entry) .second) n value r (now (self .exit) .second)) ⌝ }
     {
         let (front, size) = self.sizes();
-        if number >= size {
-            Err(MemoryFault { number, size })
-        } else if number < front {
+        admit(number, size)?;
+        if number < front {
             self.first.write(number, value)
         } else {
             self.second.write(number - front, value)

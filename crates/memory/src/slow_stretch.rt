@@ -4,6 +4,7 @@ ghost use Rattle.memory.specs.Delays.{slower};
 ghost use Rattle.memory.specs.Memory.{Read, Written};
 ghost use Rattle.memory.specs.SlowStretch.{in-stretch, slow-over, slow-words, slow-delay, slow-frame};
 ghost use Rattle.memory.specs.Lawful.{slow-laws};
+use crate::delays::slower_delay;
 use crate::memory::Memory;
 use crate::memory::MemoryFault;
 
@@ -69,11 +70,8 @@ pub impl<M: Memory> Memory for SlowStretch<M> as SlowStretchMemory {
     }
 
     fn delay(&mut self, number: u32) -> u8 {
-        if number >= self.below.size() {
-            return 0;
-        }
         let extra = self.extra_for(number);
-        self.below.delay(number).saturating_add(extra)
+        slower_delay(&mut self.below, number, extra)
     }
 
     fn read(&mut self, number: u32) -> Result<u32, MemoryFault>

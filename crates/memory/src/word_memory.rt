@@ -8,6 +8,7 @@ ghost use Rattle.memory.specs.WordMemory.{word-words, word-delay, word-frame};
 ghost use Rattle.memory.specs.Lawful.{word-laws};
 use crate::memory::Memory;
 use crate::memory::MemoryFault;
+use crate::memory::admit;
 use crate::memory::capped;
 
 #[derive(Drop)]
@@ -85,21 +86,13 @@ pub impl<'a> Memory for WordMemory<'a> as WordMemoryMemory {
     }
 
     fn read(&mut self, number: u32) -> Result<u32, MemoryFault> {
-        let size = self.count();
-        if number < size {
-            Ok(self.word(number))
-        } else {
-            Err(MemoryFault { number, size })
-        }
+        admit(number, self.count())?;
+        Ok(self.word(number))
     }
 
     fn write(&mut self, number: u32, value: u32) -> Result<(), MemoryFault> {
-        let size = self.count();
-        if number < size {
-            self.put(number, value);
-            Ok(())
-        } else {
-            Err(MemoryFault { number, size })
-        }
+        admit(number, self.count())?;
+        self.put(number, value);
+        Ok(())
     }
 }

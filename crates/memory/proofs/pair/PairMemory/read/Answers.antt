@@ -3,8 +3,8 @@ use native.Mathlib.Omega.{arith}
 use Rattle.memory.proofs.Joined.{joined-length, first-word, second-word}
 use Rattle.memory.proofs.pair.PairMemory.read.Needs as need
 
-pub returns-then-number-size : need.returns-then-number-size
-returns-then-number-size g c =
+pub returns-in-Break-admit : need.returns-in-Break-admit
+returns-in-Break-admit g c =
     let p = c .args .self .now in
     let l = joined-length (g .A·Memory .words (p .first)) (g .B·Memory .words (p .second)) in
     let f = g .A·Memory .laws .few (p .first) in

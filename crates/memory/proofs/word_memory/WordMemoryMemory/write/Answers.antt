@@ -2,5 +2,5 @@ use borrow.Author.Needs.{needs}
 use Rattle.std.proofs.shelf.Lists.{set-past}
 use Rattle.memory.proofs.word_memory.WordMemoryMemory.write.Needs as need
 
-pub returns-else-number-size : need.returns-else-number-size
-returns-else-number-size c = search (needs, set-past)
+pub returns-in-Break-admit : need.returns-in-Break-admit
+returns-in-Break-admit c = search (needs, set-past)
