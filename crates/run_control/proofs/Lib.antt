@@ -1,0 +1,11 @@
+pub mod Fits
+pub mod Images
+pub mod Ticks
+pub mod Follow
+pub mod Whole
+pub mod Runs
+pub mod Traces
+pub mod OneBus
+pub mod Examples
+pub mod Memories
+pub mod Steps
