@@ -7,7 +7,7 @@ ghost use Rattle.isa.specs.Addresses.{named-address};
 use crate::fields::register;
 
 // The low `width` bits, sign extended to a word.
-pub(crate) fn extended_word(word: u32, width: u32) -> u32
+fn extended_word(word: u32, width: u32) -> u32
     requires { ⌜ 0 < width ⌝ ∗ ⌜ width < 31 ⌝ }
     ensures { λ r. ⌜ r ≡ fields.word-of (fields.extended width word) ⌝ }
 {

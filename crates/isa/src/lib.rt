@@ -5,7 +5,6 @@ mod entry;
 mod fields;
 mod instruction;
 mod line;
-mod names;
 mod operation;
 mod stray;
 mod text;
