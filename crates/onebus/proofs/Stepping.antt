@@ -7,7 +7,9 @@ use lib.Dec.{eqb, ltb}
 use lib.ListN.{length, set}
 use Rattle.std.specs.declared.result.Result.{Result}
 use Rattle.std.specs.declared.result.Result.the-variants.{Ok, Err}
+use Rattle.std.specs.Results.{ErrBy}
 use Rattle.std.proofs.shelf.Lists.{set-past}
+use Rattle.std.proofs.shelf.Results.{err-from-errBy}
 use Rattle.std.proofs.shelf.Tests.{eq-eqb, ltb-false}
 use Rattle.isa.specs.Book as book
 use Rattle.isa.specs.Book.{Access, access}
@@ -43,6 +45,10 @@ or-unassigned (Err e) = e
 
 abbrev writing : Bool → Bool → List ℕ → ℕ → Result (Unit {0}) Cause
 writing u v ws n = cond u (cond v (Ok tt) (Err (NoWord (fault-of ws n)))) (Ok tt)
+
+-- what the exit of a `?` returns
+pub refusal-is : (r : Result ℕ Cause) (e : Cause) → ErrBy r (λ (x : Cause). x ≡ e) → r ≡ Err e
+refusal-is r e h = let p = err-from-errBy r h in p .1 ∙ ap (λ (x : Cause). Err x) (p .2)
 
 and-false : (x y : Bool) → y ≡ false → x && y ≡ false
 and-false true y e = e
