@@ -258,7 +258,7 @@ impl Core {
         self.con = con;
         self.t = t;
         if word.has(Signal::RIn) {
-            self.set_register(selected, bus);
+            self.put(selected, bus);
         }
     }
 }
