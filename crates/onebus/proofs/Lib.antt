@@ -1,2 +1,3 @@
 pub mod Registers
 pub mod Stepping
+pub mod Told

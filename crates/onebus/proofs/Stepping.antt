@@ -7,7 +7,9 @@ use lib.Dec.{eqb, ltb}
 use lib.ListN.{length, set}
 use Rattle.std.specs.declared.result.Result.{Result}
 use Rattle.std.specs.declared.result.Result.the-variants.{Ok, Err}
+use Rattle.std.specs.Results.{ErrBy}
 use Rattle.std.proofs.shelf.Lists.{set-past}
+use Rattle.std.proofs.shelf.Results.{err-from-errBy}
 use Rattle.std.proofs.shelf.Tests.{eq-eqb, ltb-false}
 use Rattle.isa.specs.Book as book
 use Rattle.isa.specs.Book.{Access, access}
@@ -17,7 +19,8 @@ use Rattle.rows.specs.Signals.{gives}
 use Rattle.rows.specs.Core as model
 use Rattle.rows.specs.Core.{Outcome, bus, stored, at-step, met, touches, held, written, closed, carried-out, allowed, addressed, conditional, assigned, rowless, execute}
 use Rattle.rows.specs.Core.Outcome.{more, done, failed}
-use Rattle.memory.specs.Memory.{fault-of}
+use Rattle.memory.specs.Memory.{fault-of, Written}
+use Rattle.memory.specs.declared.memory.MemoryFault.{MemoryFault}
 use Rattle.memory.specs.declared.memory.Memory.{Ghosts}
 use Rattle.onebus.specs.declared.fault.Cause.{Cause}
 use Rattle.onebus.specs.declared.fault.Cause.the-variants.{Unassigned, NoWord}
@@ -41,8 +44,16 @@ abbrev or-unassigned : {X : Type 0} → Result X Cause → Cause
 or-unassigned (Ok x) = Unassigned
 or-unassigned (Err e) = e
 
+abbrev or-fault : MemoryFault → Result (Unit {0}) MemoryFault → MemoryFault
+or-fault d (Ok x) = d
+or-fault d (Err f) = f
+
 abbrev writing : Bool → Bool → List ℕ → ℕ → Result (Unit {0}) Cause
 writing u v ws n = cond u (cond v (Ok tt) (Err (NoWord (fault-of ws n)))) (Ok tt)
+
+-- what the exit of a `?` returns
+pub refusal-is : (r : Result (Unit {0}) Cause) (e : Cause) → ErrBy r (λ (x : Cause). x ≡ e) → r ≡ Err e
+refusal-is r e h = let p = err-from-errBy r h in p .1 ∙ ap (λ (x : Cause). Err x) (p .2)
 
 and-false : (x y : Bool) → y ≡ false → x && y ≡ false
 and-false true y e = e
@@ -69,38 +80,25 @@ allowed-as w k ws p q =
     by true = refl
     by false = refl
 
-module _ {S : Type 0} (g : Ghosts S) (w : ℕ) (k : model.Core) (m m₁ m₂ : S) where
-  -- a write that is refused, after the step's read
-  pub refused-write : (x : ℕ) (e : Cause) → touches w ≡ true → k .ma % 4 ≡ 0 → Reads g w k m (Ok x) m₁ → Writes g w k m₁ (Err e) m₂ → Accesses g w k m (Err e) m₂
-  refused-write x e t a r q = by (gives w Write) (ltb (k .ma / 4) (length (g .words m))) refl refl
+-- a write that the memory refuses, whatever was to be written
+module _ {S : Type 0} (g : Ghosts S) (w : ℕ) (k : model.Core) (m m′ : S) where
+  pub refused-write : (x : ℕ) (f : MemoryFault) (e : Cause) → gives w Write ≡ true → e ≡ NoWord f → Written (g .words) (g .delay) (g .frame) m (k .ma / 4) x (Err f) m′ → Writes g w k m (Err e) m′
+  refused-write x f e t q s = by (ltb (k .ma / 4) (length (g .words m))) refl
     where
-      told : Err e ≡ write-answer w k (g .words m)
-      told = q .answer ∙ ap (λ (us : List ℕ). write-answer w k us) (r .words)
-
-      told-as : (u v : Bool) → gives w Write ≡ u → ltb (k .ma / 4) (length (g .words m)) ≡ v → Err e ≡ writing u v (g .words m) (k .ma / 4)
-      told-as u v h i =
-          told ∙ ap (λ (b : Bool). writing b (ltb (k .ma / 4) (length (g .words m))) (g .words m) (k .ma / 4)) h
-          ∙ ap (λ (b : Bool). writing u b (g .words m) (k .ma / 4)) i
-
-      by : (u v : Bool) → gives w Write ≡ u → ltb (k .ma / 4) (length (g .words m)) ≡ v → Accesses g w k m (Err e) m₂
-      by false v h i = absurd (subst Refusal (told-as false v h i) tt)
-      by true true h i = absurd (subst Refusal (told-as true true h i) tt)
-      by true false h i =
-          let n : ℕ = k .ma / 4 in
-          let is : access-of w k (g .words m) ≡ unfit book.Cause.no-word =
-          ap (λ (b : Bool). cond b (access (k .ma) (length (g .words m))) fit) t
-          ∙ ap (λ (b : Bool). cond b (cond (ltb n (length (g .words m))) fit (unfit book.Cause.no-word)) (unfit book.Cause.unaligned)) (eq-eqb (k .ma % 4) 0 a)
-          ∙ ap (λ (b : Bool). cond b fit (unfit book.Cause.no-word)) i in
-          let past : set (g .words m) n (k .md) ≡ g .words m = set-past (g .words m) n (k .md) (ltb-false n (length (g .words m)) i) in
-          let i₁ : ltb n (length (g .words m₁)) ≡ false = ap (λ (us : List ℕ). ltb n (length us)) (r .words) ∙ i in
+      by : (b : Bool) → ltb (k .ma / 4) (length (g .words m)) ≡ b → Writes g w k m (Err e) m′
+      by true i = absurd (subst Refusal (s .answer ∙ ap (λ (b : Bool). cond b (Ok tt) (Err (fault-of (g .words m) (k .ma / 4)))) i) tt)
+      by false i =
+          let ws : List ℕ = g .words m in
+          let is : f ≡ fault-of ws (k .ma / 4) = ap (or-fault f) (s .answer ∙ ap (λ (b : Bool). cond b (Ok tt) (Err (fault-of ws (k .ma / 4)))) i) in
+          let past : length ws ≤ k .ma / 4 = ltb-false (k .ma / 4) (length ws) i in
+          let no : gives w Write && ltb (k .ma / 4) (length ws) ≡ false = and-false (gives w Write) _ i in
           record {
-            answer = ap (λ (y : Cause). Err y) (ap or-unassigned (told-as true false h i)) ∙ ap (λ (y : Access). access-answer y w k (g .words m)) (sym is);
-            words =
-                q .words ∙ ap (λ (us : List ℕ). written w k us) (r .words)
-                ∙ ap (λ (b : Bool). cond b (set (g .words m) n (k .md)) (g .words m)) h ∙ past
-                ∙ ap (λ (x : Access). cond (fits x) (written w k (g .words m)) (g .words m)) (sym is);
-            delays = λ z. q .delays (and-false (gives w Write) _ i₁) ∙ r .delays (and-false (gives w Read) _ i);
-            frame = q .frame ∙ r .frame;
+            answer =
+                ap (λ (y : Cause). Err y) (q ∙ ap (λ (y : MemoryFault). NoWord y) is)
+                ∙ sym (ap (λ (b : Bool). writing b (ltb (k .ma / 4) (length ws)) ws (k .ma / 4)) t ∙ ap (λ (b : Bool). writing true b ws (k .ma / 4)) i);
+            words = s .word-set ∙ set-past ws (k .ma / 4) x past ∙ sym (ap (λ (b : Bool). cond b (set ws (k .ma / 4) (k .md)) ws) no);
+            delays = λ z. s .refused-kept past;
+            frame = s .frame-kept;
           }
 
 module _ {S : Type 0} (g : Ghosts S) (w : ℕ) (k k′ : model.Core) (m m′ : S) (here : rowless w (k .t) ≡ false) (now : met w (k .n) ≡ true) where

@@ -4,7 +4,7 @@ use mathlib.Core.Bool.{Bool, true, false, cond, _&&_}
 use mathlib.Core.List.{List}
 use Prim.Native.Nat.{ℕ, _/_, _%_}
 use lib.Dec.{eqb, ltb}
-use lib.ListN.{length, getD}
+use lib.ListN.{length, getD, set}
 use Rattle.std.specs.declared.result.Result.{Result}
 use Rattle.std.specs.declared.result.Result.the-variants.{Ok, Err}
 use Rattle.isa.specs.Book.{Access, access}
@@ -78,7 +78,7 @@ write-answer w k ws =
 
 pub record Writes {S : Type 0} (g : Ghosts S) (w : ℕ) (k : model.Core) (m : S) (r : Result (Unit {0}) Cause) (m′ : S) : Type 0 where
   pub answer : r ≡ write-answer w k (g .words m)
-  pub words : g .words m′ ≡ written w k (g .words m)
+  pub words : g .words m′ ≡ cond (gives w Write && ltb (k .ma / 4) (length (g .words m))) (set (g .words m) (k .ma / 4) (k .md)) (g .words m)
   pub delays : gives w Write && ltb (k .ma / 4) (length (g .words m)) ≡ false → g .delay m′ ≡ g .delay m
   pub frame : g .frame m′ ≡ g .frame m
 

@@ -39,7 +39,7 @@ changed k p rs t = record {
   t = t;
 }
 
--- with R0 to R31 zeroed; with PC and T zeroed; with all of them zeroed; and with another value in register i, where there is one
+-- with R0 to R31 zeroed; with PC and T zeroed; with all of them zeroed; and with another value in register i
 abbrev pub cleared : model.Core → model.Core
 cleared k = changed k (k .pc) (replicate 32 0) (k .t)
 

@@ -1,6 +1,7 @@
 // Control words.
 ghost use mathlib.Core.Path.{_≡_};
-ghost use Rattle.rows.specs.Signals.{gives};
+ghost use Prim.Native.Nat.{_<_};
+ghost use Rattle.rows.specs.Signals.{bit-of, gives};
 ghost use Rattle.rows.specs.Core.{met, touches};
 ghost use Rattle.onebus.specs.Steps.{progress-of};
 use crate::progress::Progress;
@@ -10,11 +11,18 @@ use rows::Signal;
 #[derive(Clone, Copy)]
 pub struct ControlWord(pub u64);
 
+/// The signal's bit.
+fn bit(signal: Signal) -> u32
+    ensures { λ r. ⌜ r ≡ bit-of signal ⌝ ∗ ⌜ r < 41 ⌝ }
+{
+    signal as u32
+}
+
 impl ControlWord {
     pub fn has(self, signal: Signal) -> bool
         ensures { λ r. ⌜ r ≡ gives (self .0) signal ⌝ }
     {
-        (self.0 >> (signal as u32)) % 2 == 1
+        (self.0 >> bit(signal)) % 2 == 1
     }
 
     /// Is its condition on the count n met?

@@ -2,7 +2,7 @@
 ghost use mathlib.Core.Path.{_≡_};
 ghost use mathlib.Core.Bool.{cond};
 ghost use Prim.Native.Nat.{ℕ, _+_, _%_, _<_, _^_};
-ghost use Rattle.isa.specs.Fields.{ra-of, rb-of, rc-of, c1-of, c2-of, when-of, word-of};
+ghost use Rattle.isa.specs.Fields.{op-of, ra-of, rb-of, rc-of, c1-of, c2-of, when-of, word-of};
 ghost use Rattle.isa.specs.Arithmetic.{binary-result, unary-result, shifted-once, sign as sign-of, condition as condition-of};
 ghost use Rattle.isa.specs.declared.operation.Shift.the-variants as by-places;
 ghost use Rattle.rows.specs.Core.{selected, bus as bus-of, alu as alu-of, up, stored};
@@ -12,6 +12,13 @@ ghost use Rattle.onebus.specs.View.{core-of};
 use crate::control::ControlWord;
 use crate::core::Core;
 use rows::Signal;
+
+/// The code of an instruction word's operation.
+pub(crate) fn op(word: u32) -> usize
+    ensures { λ r. ⌜ r ≡ op-of word ⌝ ∗ ⌜ r < 32 ⌝ }
+{
+    ((word >> 27) % 32) as usize
+}
 
 /// The register fields of an instruction word.
 fn ra(word: u32) -> usize
@@ -251,7 +258,7 @@ impl Core {
         self.con = con;
         self.t = t;
         if word.has(Signal::RIn) {
-            self.set_register(selected, bus);
+            self.put(selected, bus);
         }
     }
 }

@@ -1,7 +1,7 @@
 // Our control store: the control word of each operation at each step.
 ghost use mathlib.Core.Path.{_≡_};
-ghost use Rattle.rows.specs.Rows.{table};
-ghost use Rattle.onebus.specs.Words.{word-in-row};
+ghost use Rattle.rows.specs.Rows.{blocks, table};
+ghost use Rattle.onebus.specs.Words.{word-in-store};
 use crate::control::ControlWord;
 use rows::Signal;
 
@@ -453,16 +453,23 @@ static CONTROL_STORE: [u64; 256] = [
     NONE,
 ];
 
-/// The 256 control words, by code * 8 + step.
-pub fn control_store() -> &'static [u64; 256]
-    ensures { λ r. ⌜ now r ≡ table ⌝ }
+/// The array, word by word that of the rows.
+fn words() -> &'static [u64; 256]
+    ensures { λ r. ⌜ now r ≡ blocks 32 0 ⌝ }
 {
     &CONTROL_STORE
 }
 
+/// The 256 control words, by code * 8 + step.
+pub fn control_store() -> &'static [u64; 256]
+    ensures { λ r. ⌜ now r ≡ table ⌝ }
+{
+    words()
+}
+
 /// The control word of a code at a step, where there are such a code and step.
 pub fn control_word(code: u8, step: u8) -> Option<ControlWord>
-    ensures { λ r. ⌜ r ≡ word-in-row code step ⌝ }
+    ensures { λ r. ⌜ r ≡ word-in-store code step ⌝ }
 {
     if code < 32 && step < 8 {
         Some(ControlWord(control_store()[code as usize * 8 + step as usize]))

@@ -1,5 +1,8 @@
 // Making and setting a core.
 ghost use mathlib.Core.Path.{_≡_};
+ghost use mathlib.Core.Bool.{cond};
+ghost use Prim.Native.Nat.{_<_};
+ghost use lib.Dec.{ltb};
 ghost use Rattle.rows.specs.Core.{at-step};
 ghost use Rattle.onebus.specs.View.{core-of, with-register, zeroed, cleared, restarted, started};
 use crate::core::Core;
@@ -55,10 +58,17 @@ impl Core {
 
     /// Sets a register, where there is one of that number.
     pub fn set_register(&mut self, i: usize, value: u32)
-        ensures { λ _. ⌜ core-of (now (self .exit)) ≡ with-register (core-of (now (self .entry))) i value ⌝ }
+        ensures { λ _. ⌜ core-of (now (self .exit)) ≡ cond (ltb i 32) (with-register (core-of (now (self .entry))) i value) (core-of (now (self .entry))) ⌝ }
     {
         if i < 32 {
-            self.regs[i] = value;
+            self.put(i, value);
         }
+    }
+
+    pub(crate) fn put(&mut self, i: usize, value: u32)
+        requires { ⌜ i < 32 ⌝ }
+        ensures { λ _. ⌜ core-of (now (self .exit)) ≡ with-register (core-of (now (self .entry))) i value ⌝ }
+    {
+        self.regs[i] = value;
     }
 }

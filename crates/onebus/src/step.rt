@@ -8,6 +8,7 @@ ghost use Rattle.onebus.specs.View.{core-of};
 ghost use Rattle.onebus.specs.Steps.{progress-of, Reads, Writes, Accesses, Stepped};
 use crate::control::ControlWord;
 use crate::core::Core;
+use crate::datapath::op;
 use crate::datapath::raised;
 use crate::fault::Cause;
 use crate::fault::CauseFromMemoryFault;
@@ -22,7 +23,7 @@ impl Core {
     pub fn control_word(&self) -> ControlWord
         ensures { λ r. ⌜ r .0 ≡ control-at table (core-of (now (self .entry))) ⌝ }
     {
-        ControlWord(control_store()[(self.ir >> 27) as usize * 8 + self.t as usize])
+        ControlWord(control_store()[op(self.ir) * 8 + self.t as usize])
     }
 
     /// Has the operation no row? Its control word in T3 is empty.

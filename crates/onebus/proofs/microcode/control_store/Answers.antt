@@ -1,8 +1,10 @@
-use mathlib.Core.Path.{refl}
-use Rattle.rows.specs.Rows.{table}
+use mathlib.Core.Path.{_≡_, refl, _∙_}
+use Rattle.rows.specs.Rows.{blocks, table}
 use Rattle.onebus.proofs.microcode.control_store.Needs as need
 
--- the whole array is the rows
-pub returns : need.returns
+in-full : blocks 32 0 ≡ table
 unfolding table
-returns c = refl
+in-full = refl
+
+pub returns : need.returns
+returns c = c .words .ensures ∙ in-full
