@@ -50,7 +50,7 @@ pub fn address(word: u32, pc: u32, registers: &[u32; 32]) -> Option<u32>
 pub fn condition(when: u8, tested: u32) -> bool
     ensures { λ r. ⌜ r ≡ condition-of when tested ⌝ }
 {
-    let negative = tested / 0x8000_0000 % 2 == 1;
+    let negative = (tested >> 31) % 2 == 1;
     when == 1
         || when == 2 && tested == 0
         || when == 3 && tested != 0

@@ -2,7 +2,7 @@
 ghost use mathlib.Core.Path.{_≡_};
 ghost use mathlib.Core.Bool.{cond};
 ghost use Prim.Native.Nat.{ℕ, _+_, _%_, _<_, _^_};
-ghost use Rattle.isa.specs.Fields.{op-of, ra-of, rb-of, rc-of, c1-of, c2-of, when-of, word-of};
+ghost use Rattle.isa.specs.Fields.{op-of, ra-of, rb-of, rc-of, when-of};
 ghost use Rattle.isa.specs.Arithmetic.{binary-result, unary-result, shifted-once, sign as sign-of, condition as condition-of};
 ghost use Rattle.isa.specs.declared.operation.Shift.the-variants as by-places;
 ghost use Rattle.rows.specs.Core.{selected, bus as bus-of, alu as alu-of, up, stored};
@@ -11,6 +11,9 @@ ghost use Rattle.rows.specs.Signals.{gives};
 ghost use Rattle.onebus.specs.View.{core-of};
 use crate::control::ControlWord;
 use crate::core::Core;
+use isa::c1_word;
+use isa::c2_word;
+use isa::condition;
 use rows::Signal;
 
 /// The code of an instruction word's operation.
@@ -39,40 +42,10 @@ fn rc(word: u32) -> usize
     ((word >> 12) % 32) as usize
 }
 
-/// The constants of an instruction word, sign extended.
-fn c1(word: u32) -> u32
-    ensures { λ r. ⌜ r ≡ word-of (c1-of word) ⌝ }
-{
-    let low = word % 0x40_0000;
-    if low < 0x20_0000 {
-        low
-    } else {
-        low + 0xFFC0_0000
-    }
-}
-
-fn c2(word: u32) -> u32
-    ensures { λ r. ⌜ r ≡ word-of (c2-of word) ⌝ }
-{
-    let low = word % 0x2_0000;
-    if low < 0x1_0000 {
-        low
-    } else {
-        low + 0xFFFE_0000
-    }
-}
-
 fn sign(x: u32) -> bool
     ensures { λ r. ⌜ r ≡ sign-of x ⌝ }
 {
     (x >> 31) % 2 == 1
-}
-
-/// Is a branch with the code k taken, that tests x?
-fn condition(k: u32, x: u32) -> bool
-    ensures { λ r. ⌜ r ≡ condition-of k x ⌝ }
-{
-    k == 1 || k == 2 && x == 0 || k == 3 && x != 0 || k == 4 && !sign(x) || k == 5 && sign(x)
 }
 
 /// A shift by one place with the sign kept, and one around to the left.
@@ -171,9 +144,9 @@ impl Core {
             let i = self.selected(word);
             if i == 0 { 0 } else { self.regs[i] }
         } else if word.has(Signal::C1Out) {
-            c1(self.ir)
+            c1_word(self.ir)
         } else if word.has(Signal::C2Out) {
-            c2(self.ir)
+            c2_word(self.ir)
         } else {
             0
         }
@@ -219,7 +192,7 @@ impl Core {
         ensures { λ r. ⌜ r ≡ cond (gives (word .0) ConIn) (condition-of (when-of (now (self .entry) .ir)) bus) (now (self .entry) .con) ⌝ }
     {
         if word.has(Signal::ConIn) {
-            condition(self.ir % 8, bus)
+            condition((self.ir % 8) as u8, bus)
         } else {
             self.con
         }
