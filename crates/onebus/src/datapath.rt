@@ -5,7 +5,7 @@ ghost use Prim.Native.Nat.{ℕ, _+_, _%_, _<_, _^_};
 ghost use Rattle.isa.specs.Fields.{op-of, ra-of, rb-of, rc-of, when-of};
 ghost use Rattle.isa.specs.Arithmetic.{binary-result, unary-result, shifted-once, sign as sign-of, condition as condition-of};
 ghost use Rattle.isa.specs.declared.operation.Shift.the-variants as by-places;
-ghost use Rattle.rows.specs.Core.{selected, bus as bus-of, alu as alu-of, up, stored};
+ghost use Rattle.rows.specs.Core.{selected, from-instruction, bus as bus-of, shifter as shifter-of, alu as alu-of, up, stored};
 ghost use Rattle.rows.specs.declared.signal.Signal.the-variants.{PcIn, ConPcIn, CIn, ConIn, Ld, Decr, Goto6, End};
 ghost use Rattle.rows.specs.Signals.{gives};
 ghost use Rattle.onebus.specs.View.{core-of};
@@ -79,6 +79,23 @@ pub(crate) fn raised(t: u8) -> u8
     if t < 7 { t + 1 } else { 7 }
 }
 
+/// The ALU's shifts, by one place.
+fn shifter(word: ControlWord, b: u32) -> u32
+    ensures { λ r. ⌜ r ≡ shifter-of (word .0) b ⌝ }
+{
+    if word.has(Signal::Shr) {
+        b >> 1
+    } else if word.has(Signal::Shra) {
+        shra_once(b)
+    } else if word.has(Signal::Shl) {
+        b << 1
+    } else if word.has(Signal::Shc) {
+        shc_once(b)
+    } else {
+        0
+    }
+}
+
 /// The ALU's result from A and the bus.
 fn alu(word: ControlWord, a: u32, b: u32) -> u32
     ensures { λ r. ⌜ r ≡ alu-of (word .0) a b ⌝ }
@@ -99,16 +116,8 @@ fn alu(word: ControlWord, a: u32, b: u32) -> u32
         b
     } else if word.has(Signal::Inc4) {
         b.wrapping_add(4)
-    } else if word.has(Signal::Shr) {
-        b >> 1
-    } else if word.has(Signal::Shra) {
-        shra_once(b)
-    } else if word.has(Signal::Shl) {
-        b << 1
-    } else if word.has(Signal::Shc) {
-        shc_once(b)
     } else {
-        0
+        shifter(word, b)
     }
 }
 
@@ -128,17 +137,11 @@ impl Core {
         }
     }
 
-    /// What is on the bus.
-    pub(crate) fn bus(&self, word: ControlWord) -> u32
-        ensures { λ r. ⌜ r ≡ bus-of (word .0) (core-of (now (self .entry))) ⌝ }
+    /// What IR puts on the bus: a register that it selects, or a constant.
+    fn from_instruction(&self, word: ControlWord) -> u32
+        ensures { λ r. ⌜ r ≡ from-instruction (word .0) (core-of (now (self .entry))) ⌝ }
     {
-        if word.has(Signal::PcOut) {
-            self.pc
-        } else if word.has(Signal::MdOut) {
-            self.md
-        } else if word.has(Signal::COut) {
-            self.c
-        } else if word.has(Signal::ROut) {
+        if word.has(Signal::ROut) {
             self.regs[self.selected(word)]
         } else if word.has(Signal::BaOut) {
             let i = self.selected(word);
@@ -149,6 +152,21 @@ impl Core {
             c2_word(self.ir)
         } else {
             0
+        }
+    }
+
+    /// What is on the bus.
+    pub(crate) fn bus(&self, word: ControlWord) -> u32
+        ensures { λ r. ⌜ r ≡ bus-of (word .0) (core-of (now (self .entry))) ⌝ }
+    {
+        if word.has(Signal::PcOut) {
+            self.pc
+        } else if word.has(Signal::MdOut) {
+            self.md
+        } else if word.has(Signal::COut) {
+            self.c
+        } else {
+            self.from_instruction(word)
         }
     }
 

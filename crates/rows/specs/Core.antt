@@ -45,12 +45,21 @@ chosen w s = getD (s .regs) (selected w (s .ir)) 0
 abbrev pub chosen-base : ℕ → Core → ℕ
 chosen-base w s = cond (eqb (selected w (s .ir)) 0) 0 (chosen w s)
 
+-- what IR puts on the bus: a register that it selects, or a constant
+abbrev pub from-instruction : ℕ → Core → ℕ
+from-instruction w s =
+    cond (gives w ROut) (chosen w s) (cond (gives w BaOut) (chosen-base w s)
+    (cond (gives w C1Out) (word-of (c1-of (s .ir))) (cond (gives w C2Out) (word-of (c2-of (s .ir))) 0)))
+
 -- the bus: 0 where no gate drives it
 abbrev pub bus : ℕ → Core → ℕ
-bus w s =
-    cond (gives w PcOut) (s .pc) (cond (gives w MdOut) (s .md) (cond (gives w COut) (s .c)
-    (cond (gives w ROut) (chosen w s) (cond (gives w BaOut) (chosen-base w s)
-    (cond (gives w C1Out) (word-of (c1-of (s .ir))) (cond (gives w C2Out) (word-of (c2-of (s .ir))) 0))))))
+bus w s = cond (gives w PcOut) (s .pc) (cond (gives w MdOut) (s .md) (cond (gives w COut) (s .c) (from-instruction w s)))
+
+-- the ALU's shifts, by one place
+abbrev pub shifter : ℕ → ℕ → ℕ
+shifter w y =
+    cond (gives w Shr) (shifted-once by-places.Shr y) (cond (gives w Shra) (shifted-once by-places.Shra y)
+    (cond (gives w Shl) (shifted-once by-places.Shl y) (cond (gives w Shc) (shifted-once by-places.Shc y) 0)))
 
 -- the ALU's result from A and the bus: 0 where it has no function
 abbrev pub alu : ℕ → ℕ → ℕ → ℕ
@@ -58,9 +67,7 @@ alu w x y =
     cond (gives w Add) (binary-result on-two.Add x y) (cond (gives w Sub) (binary-result on-two.Sub x y)
     (cond (gives w And) (binary-result on-two.And x y) (cond (gives w Or) (binary-result on-two.Or x y)
     (cond (gives w Neg) (unary-result on-one.Neg y) (cond (gives w Not) (unary-result on-one.Not y)
-    (cond (gives w CIsB) y (cond (gives w Inc4) (plus y 4)
-    (cond (gives w Shr) (shifted-once by-places.Shr y) (cond (gives w Shra) (shifted-once by-places.Shra y)
-    (cond (gives w Shl) (shifted-once by-places.Shl y) (cond (gives w Shc) (shifted-once by-places.Shc y) 0)))))))))))
+    (cond (gives w CIsB) y (cond (gives w Inc4) (plus y 4) (shifter w y))))))))
 
 -- the next step: T goes up by one, and has no value above 7
 abbrev pub up : ℕ → ℕ
