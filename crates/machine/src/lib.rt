@@ -1,0 +1,9 @@
+//! The machine.
+mod calls;
+mod clock;
+mod frame;
+mod performing;
+
+pub use frame::Machine;
+pub use performing::perform;
+pub use performing::perform_all;
