@@ -1,4 +1,6 @@
 -- A machine over any memory, as run control around the one-bus core has it. Assumes nothing.
+use mathlib.Core.List.{List}
+use Rattle.memory.specs.Memory.{Loan}
 use Rattle.memory.specs.declared.memory.Memory.{Ghosts}
 use Rattle.rows.specs.Core as bus
 use Rattle.onebus.specs.View.{core-of}
@@ -19,3 +21,7 @@ view g m = record {
   finished = m .finished;
   delays = g .delay (m .memory);
 }
+
+-- what is lent to its memory and is none of its words
+abbrev pub lent : {X : Type 0} → Ghosts X → Machine X → List Loan
+lent g m = g .frame (m .memory)

@@ -2,7 +2,7 @@
 ghost use mathlib.Core.Path.{_≡_};
 ghost use Rattle.run_control.specs.OneBus.{one-bus};
 ghost use Rattle.run_control.specs.Calls.{set-up, start-answer, start-state, resume-answer, resume-state, reset-answer, reset-state, register-answer, register-state, word-answer, word-state, load-answer, load-state};
-ghost use Rattle.machine.specs.View.{view};
+ghost use Rattle.machine.specs.View.{view, lent};
 use crate::frame::Machine;
 use memory::Memory;
 use memory::MemoryFault;
@@ -11,7 +11,8 @@ use run_control::Refusal;
 
 impl<M: Memory> Machine<M> {
     pub fn set_up(memory: M) -> Machine<M>
-        ensures { λ r. ⌜ view M·Memory r ≡ set-up one-bus (M·Memory .words memory) (M·Memory .delay memory) ⌝ }
+        ensures state { λ r. ⌜ view M·Memory r ≡ set-up one-bus (M·Memory .words memory) (M·Memory .delay memory) ⌝ }
+        ensures lent { λ r. ⌜ lent M·Memory r ≡ M·Memory .frame memory ⌝ }
     {
         Machine {
             memory,
@@ -29,6 +30,7 @@ impl<M: Memory> Machine<M> {
     pub fn start(&mut self) -> Result<(), Refusal>
         ensures answer { λ r. ⌜ r ≡ start-answer (view M·Memory (now (self .entry))) ⌝ }
         ensures state { λ _. ⌜ view M·Memory (now (self .exit)) ≡ start-state one-bus (view M·Memory (now (self .entry))) ⌝ }
+        ensures lent { λ _. ⌜ lent M·Memory (now (self .exit)) ≡ lent M·Memory (now (self .entry)) ⌝ }
     {
         if self.run {
             return Err(Refusal::Running);
@@ -46,6 +48,7 @@ impl<M: Memory> Machine<M> {
     pub fn resume(&mut self) -> Result<(), Refusal>
         ensures answer { λ r. ⌜ r ≡ resume-answer (view M·Memory (now (self .entry))) ⌝ }
         ensures state { λ _. ⌜ view M·Memory (now (self .exit)) ≡ resume-state one-bus (view M·Memory (now (self .entry))) ⌝ }
+        ensures lent { λ _. ⌜ lent M·Memory (now (self .exit)) ≡ lent M·Memory (now (self .entry)) ⌝ }
     {
         if self.run {
             return Err(Refusal::Running);
@@ -65,6 +68,7 @@ impl<M: Memory> Machine<M> {
     pub fn reset(&mut self) -> Result<(), Refusal>
         ensures answer { λ r. ⌜ r ≡ reset-answer (view M·Memory (now (self .entry))) ⌝ }
         ensures state { λ _. ⌜ view M·Memory (now (self .exit)) ≡ reset-state (view M·Memory (now (self .entry))) ⌝ }
+        ensures lent { λ _. ⌜ lent M·Memory (now (self .exit)) ≡ lent M·Memory (now (self .entry)) ⌝ }
     {
         if !self.run {
             return Err(Refusal::Stopped);
@@ -76,6 +80,7 @@ impl<M: Memory> Machine<M> {
     pub fn set_register(&mut self, number: u32, value: u32) -> Result<(), Refusal>
         ensures answer { λ r. ⌜ r ≡ register-answer (view M·Memory (now (self .entry))) number ⌝ }
         ensures state { λ _. ⌜ view M·Memory (now (self .exit)) ≡ register-state one-bus (view M·Memory (now (self .entry))) number value ⌝ }
+        ensures lent { λ _. ⌜ lent M·Memory (now (self .exit)) ≡ lent M·Memory (now (self .entry)) ⌝ }
     {
         if self.run {
             return Err(Refusal::Running);
@@ -90,6 +95,7 @@ impl<M: Memory> Machine<M> {
     pub fn set_word(&mut self, number: u32, value: u32) -> Result<(), Refusal>
         ensures answer { λ r. ⌜ r ≡ word-answer (view M·Memory (now (self .entry))) number ⌝ }
         ensures state { λ _. ⌜ view M·Memory (now (self .exit)) ≡ word-state (view M·Memory (now (self .entry))) number value (M·Memory .delay (now (self .exit) .memory)) ⌝ }
+        ensures lent { λ _. ⌜ lent M·Memory (now (self .exit)) ≡ lent M·Memory (now (self .entry)) ⌝ }
     {
         if self.run {
             return Err(Refusal::Running);
@@ -105,6 +111,7 @@ impl<M: Memory> Machine<M> {
     pub fn load(&mut self, bytes: &[u8]) -> Result<(), Refusal>
         ensures answer { λ r. ⌜ r ≡ load-answer (view M·Memory (now (self .entry))) (now (bytes .entry)) ⌝ }
         ensures state { λ _. ⌜ view M·Memory (now (self .exit)) ≡ load-state (view M·Memory (now (self .entry))) (now (bytes .entry)) (M·Memory .delay (now (self .exit) .memory)) ⌝ }
+        ensures lent { λ _. ⌜ lent M·Memory (now (self .exit)) ≡ lent M·Memory (now (self .entry)) ⌝ }
     {
         if self.run {
             return Err(Refusal::Running);

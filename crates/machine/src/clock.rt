@@ -9,7 +9,7 @@ ghost use Rattle.run_control.specs.OneBus.{one-bus, outcome, fetched-from};
 ghost use Rattle.run_control.specs.State.{tick as ticked, told, told-of, stepped, pause};
 ghost use Rattle.run_control.specs.Calls.{counted, Clocks};
 ghost use Rattle.onebus.specs.View.{core-of};
-ghost use Rattle.machine.specs.View.{view};
+ghost use Rattle.machine.specs.View.{view, lent};
 use crate::frame::Machine;
 use memory::Memory;
 use onebus::Core;
@@ -34,6 +34,7 @@ impl<M: Memory> Machine<M> {
     fn waits_due(&mut self) -> u8
         ensures answer { λ r. ⌜ r ≡ pause one-bus (view M·Memory (now (self .entry))) ⌝ }
         ensures state { λ _. ⌜ view M·Memory (now (self .exit)) ≡ view M·Memory (now (self .entry)) ⌝ }
+        ensures lent { λ _. ⌜ lent M·Memory (now (self .exit)) ≡ lent M·Memory (now (self .entry)) ⌝ }
     {
         if !self.core.is_wait_step() {
             return 0;
@@ -50,10 +51,11 @@ impl<M: Memory> Machine<M> {
 
 impl<M: Memory> Machine<M> {
     // The step at hand: whether it finished an instruction, or the fault and the instruction's address.
-    fn step(&mut self) -> Result<bool, (CoreFault, u32)>
+    fn advance(&mut self) -> Result<bool, (CoreFault, u32)>
         requires { ⌜ now self .clocks < 1000000000000 ⌝ }
         ensures answer { λ r. ⌜ r ≡ told-of one-bus (outcome (micro table (core-of (now (self .entry) .core)) (M·Memory .words (now (self .entry) .memory)))) (view M·Memory (now (self .entry))) ⌝ }
         ensures state { λ _. ⌜ view M·Memory (now (self .exit)) ≡ stepped one-bus (outcome (micro table (core-of (now (self .entry) .core)) (M·Memory .words (now (self .entry) .memory)))) (view M·Memory (now (self .entry))) (M·Memory .delay (now (self .exit) .memory)) ⌝ }
+        ensures lent { λ _. ⌜ lent M·Memory (now (self .exit)) ≡ lent M·Memory (now (self .entry)) ⌝ }
     {
         let from = fetched_from(&self.core);
         self.clocks += 1;
@@ -90,6 +92,7 @@ impl<M: Memory> Machine<M> {
         requires room { ⌜ counted (view M·Memory (now self)) < 1000000000000 ⌝ }
         ensures answer { λ r. ⌜ r ≡ told one-bus (view M·Memory (now (self .entry))) ⌝ }
         ensures state { λ _. ⌜ view M·Memory (now (self .exit)) ≡ ticked one-bus (view M·Memory (now (self .entry))) (M·Memory .delay (now (self .exit) .memory)) ⌝ }
+        ensures lent { λ _. ⌜ lent M·Memory (now (self .exit)) ≡ lent M·Memory (now (self .entry)) ⌝ }
     {
         if self.reset {
             self.core.restart();
@@ -107,11 +110,12 @@ impl<M: Memory> Machine<M> {
             self.waits += 1;
             return Ok(false);
         }
-        self.step()
+        self.advance()
     }
 
     pub fn clock(&mut self, wanted: u64) -> Result<Result<(u64, u64), MachineFault>, Refusal>
-        ensures { λ r. ⌜ Clocks one-bus (M·Memory .delay) (view M·Memory (now (self .entry))) wanted r (view M·Memory (now (self .exit))) ⌝ }
+        ensures clocks { λ r. ⌜ Clocks one-bus (M·Memory .delay) (view M·Memory (now (self .entry))) wanted r (view M·Memory (now (self .exit))) ⌝ }
+        ensures lent { λ _. ⌜ lent M·Memory (now (self .exit)) ≡ lent M·Memory (now (self .entry)) ⌝ }
     {
         if !self.run {
             return Err(Refusal::Stopped);

@@ -3,6 +3,7 @@ mod calls;
 mod clock;
 mod frame;
 mod performing;
+mod questions;
 
 pub use frame::Machine;
 pub use performing::perform;

@@ -4,7 +4,7 @@ ghost use mathlib.Core.List.{map};
 ghost use Rattle.run_control.specs.OneBus.{one-bus};
 ghost use Rattle.run_control.specs.Feeding.{new-book, fed};
 ghost use Rattle.run_control.specs.Whole.{plain, Does, Comes, Agrees, Carries, Paced, call-of};
-ghost use Rattle.machine.specs.View.{view};
+ghost use Rattle.machine.specs.View.{view, lent};
 use crate::frame::Machine;
 use memory::Memory;
 use run_control::Answer;
@@ -22,7 +22,8 @@ fn plainly(result: Result<(), Refusal>) -> Answer
 }
 
 fn act<M: Memory>(machine: &mut Machine<M>, call: Call) -> Answer
-    ensures { λ r. ⌜ Does one-bus (M·Memory .delay) (view M·Memory (now (machine .entry))) (call .entry) r (view M·Memory (now (machine .exit))) ⌝ }
+    ensures does { λ r. ⌜ Does one-bus (M·Memory .delay) (view M·Memory (now (machine .entry))) (call .entry) r (view M·Memory (now (machine .exit))) ⌝ }
+    ensures lent { λ _. ⌜ lent M·Memory (now (machine .exit)) ≡ lent M·Memory (now (machine .entry)) ⌝ }
 {
     match call {
         Call::Start => plainly(machine.start()),
@@ -43,6 +44,7 @@ fn act<M: Memory>(machine: &mut Machine<M>, call: Call) -> Answer
 pub fn perform<M: Memory>(machine: &mut Machine<M>, call: Call) -> Answer
     ensures does { λ r. ⌜ Does one-bus (M·Memory .delay) (view M·Memory (now (machine .entry))) (call .entry) r (view M·Memory (now (machine .exit))) ⌝ }
     ensures carries { λ r. ⌜ Carries one-bus (M·Memory .delay) (view M·Memory (now (machine .entry))) (call .entry) r (view M·Memory (now (machine .exit))) ⌝ }
+    ensures lent { λ _. ⌜ lent M·Memory (now (machine .exit)) ≡ lent M·Memory (now (machine .entry)) ⌝ }
 {
     act(machine, call)
 }
@@ -53,6 +55,7 @@ pub fn perform_all<M: Memory>(memory: M, turns: &mut [Turn]) -> Machine<M>
     ensures comes { λ r. ⌜ Comes one-bus (M·Memory .delay) (M·Memory .words memory) memory (now (turns .exit)) (view M·Memory r) ⌝ }
     ensures agrees { λ r. ⌜ Agrees one-bus (view M·Memory r) (now (turns .exit)) (fed one-bus (new-book (M·Memory .words memory)) (now (turns .exit))) ⌝ }
     ensures pace { λ r. ⌜ Paced one-bus (M·Memory .words memory) (now (turns .exit)) (view M·Memory r) ⌝ }
+    ensures lent { λ r. ⌜ lent M·Memory r ≡ M·Memory .frame memory ⌝ }
 {
     let mut machine = Machine::set_up(memory);
     for i in 0..turns.len() {

@@ -16,7 +16,7 @@ loop-i-again g c =
     let m = g .M·Memory in
     let in-it : c .loop-i .i < length (c .loop-i .turns) = omega arith in
     let more = leads-more one-bus one-bus-facts (m .delay) (m .laws .short) _ _ _ _ _ (c .loop-i .inv .1) (c .perform .ensures .does) in
-    (map-set-same call-of _ _ _ _ refl ∙ c .loop-i .inv .0, rw (take-more-set _ _ _ in-it) more)
+    (map-set-same call-of _ _ _ _ refl ∙ c .loop-i .inv .0, rw (take-more-set _ _ _ in-it) more, c .perform .ensures .lent ∙ c .loop-i .inv .2)
 
 pub returns : need.returns
 returns g c =
@@ -24,10 +24,11 @@ returns g c =
     let s = view m (c .loop-i .machine) in
     let all : take (c .loop-i .i) (c .loop-i .turns) ≡ c .loop-i .turns = take-all _ _ (omega arith) in
     let l : Comes one-bus (m .delay) (m .words (c .args .memory)) (c .args .memory) (c .loop-i .turns) s
-    = subst (λ x. Leads one-bus (m .delay) x (c .loop-i .turns) s) (c .set-up-machine .ensures) (subst (λ x. Leads one-bus (m .delay) (view m (c .set-up-machine .result)) x s) all (c .loop-i .inv .1)) in
+    = subst (λ x. Leads one-bus (m .delay) x (c .loop-i .turns) s) (c .set-up-machine .ensures .state) (subst (λ x. Leads one-bus (m .delay) (view m (c .set-up-machine .result)) x s) all (c .loop-i .inv .1)) in
     record {
       calls = c .loop-i .inv .0;
       comes = l;
       agrees = follows one-bus one-bus-facts (m .delay) (m .laws .short) _ (c .args .memory) _ s (m .laws .fits _) l;
+      lent = c .loop-i .inv .2 ∙ c .set-up-machine .ensures .lent;
       pace = paced one-bus one-bus-facts (m .delay) (m .laws .short) _ (c .args .memory) _ s (m .laws .fits _) l;
     }

@@ -24,6 +24,7 @@ loop-self-again-then-done g c =
       omega arith,
       omega (arith, up .clocks),
       (so .0 ++ x ∷ [], sofar-more one-bus one-bus-facts (m .delay) _ t _ _ (so .0) (so .1) u x true (c .loop-self-test .taken) (c .tick .ensures .state) e),
+      c .tick .ensures .lent ∙ c .loop-self .inv .4,
     )
 
 pub loop-self-again : need.loop-self-again
@@ -41,6 +42,7 @@ loop-self-again g c =
       omega arith,
       omega (arith, up .clocks),
       (so .0 ++ x ∷ [], rw z at more),
+      c .tick .ensures .lent ∙ c .loop-self .inv .4,
     )
 
 pub returns-in-Err : need.returns-in-Err
@@ -52,5 +54,8 @@ returns-in-Err g c =
     let x = c .tick .last .self .memory in
     let so = c .loop-self .inv .3 in
     let room : counted s + c .args .wanted ≤ 1000000000000 = subst (λ n. n + c .args .wanted ≤ 1000000000000) (c .counted-clocks-clocks .ensures) (omega arith) in
-    goes one-bus one-bus-facts (m .delay) s (c .args .wanted) u _ (so .0 ++ x ∷ []) (c .if-not-self .left) (c .if-wanted-eq0 .left) (c .if-wanted-gt1000000 .left) room
-    (spends-fault one-bus one-bus-facts (m .delay) s t _ _ (so .0) (so .1) u x (c .args .wanted) (c .in-Err .core, c .in-Err .instruction) (c .loop-self-test .taken) (c .tick .ensures .state) (c .in-Err .ensures tt .answer) (c .if-spent-wanted .taken))
+    record {
+      clocks = goes one-bus one-bus-facts (m .delay) s (c .args .wanted) u _ (so .0 ++ x ∷ []) (c .if-not-self .left) (c .if-wanted-eq0 .left) (c .if-wanted-gt1000000 .left) room
+          (spends-fault one-bus one-bus-facts (m .delay) s t _ _ (so .0) (so .1) u x (c .args .wanted) (c .in-Err .core, c .in-Err .instruction) (c .loop-self-test .taken) (c .tick .ensures .state) (c .in-Err .ensures tt .answer) (c .if-spent-wanted .taken));
+      lent = c .tick .ensures .lent ∙ c .loop-self .inv .4;
+    }
