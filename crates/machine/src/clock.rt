@@ -6,7 +6,7 @@ ghost use lib.Dec.{ltb};
 ghost use Rattle.rows.specs.Rows.{table};
 ghost use Rattle.rows.specs.Core.{micro};
 ghost use Rattle.run_control.specs.OneBus.{one-bus, outcome, fetched-from};
-ghost use Rattle.run_control.specs.State.{tick as ticked, told, told-of, stepped, pause};
+ghost use Rattle.run_control.specs.State.{tick as ticked, told, told-of, stepped, later-delays, pause};
 ghost use Rattle.run_control.specs.Calls.{counted, Clocks};
 ghost use Rattle.onebus.specs.View.{core-of};
 ghost use Rattle.machine.specs.View.{view, lent};
@@ -54,7 +54,7 @@ impl<M: Memory> Machine<M> {
     fn advance(&mut self) -> Result<bool, (CoreFault, u32)>
         requires { ⌜ now self .clocks < 1000000000000 ⌝ }
         ensures answer { λ r. ⌜ r ≡ told-of one-bus (outcome (micro table (core-of (now (self .entry) .core)) (M·Memory .words (now (self .entry) .memory)))) (view M·Memory (now (self .entry))) ⌝ }
-        ensures state { λ _. ⌜ view M·Memory (now (self .exit)) ≡ stepped one-bus (outcome (micro table (core-of (now (self .entry) .core)) (M·Memory .words (now (self .entry) .memory)))) (view M·Memory (now (self .entry))) (M·Memory .delay (now (self .exit) .memory)) ⌝ }
+        ensures state { λ _. ⌜ view M·Memory (now (self .exit)) ≡ stepped one-bus (outcome (micro table (core-of (now (self .entry) .core)) (M·Memory .words (now (self .entry) .memory)))) (view M·Memory (now (self .entry))) (later-delays one-bus (view M·Memory (now (self .entry))) (M·Memory .delay (now (self .exit) .memory))) ⌝ }
         ensures lent { λ _. ⌜ lent M·Memory (now (self .exit)) ≡ lent M·Memory (now (self .entry)) ⌝ }
     {
         let from = fetched_from(&self.core);
