@@ -29,7 +29,7 @@ use Rattle.run_control.specs.declared.calls.Turn.{Turn}
 use Rattle.rows.specs.Runs.{Fits}
 use Rattle.run_control.specs.Core.{Core, CoreFacts, Outcome, Small, seen, steps, andThen, zeros}
 use Rattle.run_control.specs.Core.Outcome.{more, done, failed}
-use Rattle.run_control.specs.State.{State, Delays, Going, begin, turn, run-on, tick, clocked, told, told-of, ends, fault-in, answer-with, answer-of, pause, stepped, after-wait, after-reset, after-fault}
+use Rattle.run_control.specs.State.{State, Delays, Going, begin, turn, run-on, tick, clocked, told, told-of, ends, fault-in, answer-with, answer-of, pause, stepped, later-delays, after-wait, after-reset, after-fault}
 use Rattle.run_control.specs.Calls.{word-value, image-answer, image-state, start-answer, start-state, resume-answer, resume-state, reset-answer, reset-state, register-answer, register-state, word-answer, word-state, load-answer, load-state, clock-refusal, counted, set-up, started, resumed, with-reset, with-core, with-words, Spends, Clocks, ClocksBy}
 use Rattle.run_control.specs.Feeding.{Fed, Fault, new-book, started-book, resumed-book, waiting-book, reset-book, seeing, image-seen, taken, instruct, instructs, feed, fed, stands-next, standing, fault-told}
 use Rattle.run_control.specs.Whole.{plain, spent-or-fault, clock-told, Bounded, Agrees, Does, Leads, Follows, Every-core-follows}
@@ -68,13 +68,13 @@ module _ (k : Core) (f : CoreFacts k) where
 
   module _ (s : State (k .P)) (d : Delays) where
     -- a clock that tells a fault stops the machine
-    step-stops : (r : Outcome (k .P)) (e : CoreFault × ℕ) → told-of k r s ≡ Err e → stepped k r s d .run ≡ false
+    step-stops : (r : Outcome (k .P)) (e : CoreFault × ℕ) → told-of k r s ≡ Err e → stepped k r s (later-delays k s d) .run ≡ false
     step-stops (more p ws) e h = cc
     step-stops (done z p ws) e h = cc
     step-stops (failed c a) e h = refl
 
     abbrev by-tests : Bool → Bool → Outcome (k .P) → State (k .P)
-    by-tests r w o = cond r (after-reset k s) (cond w (after-wait s (pause k s)) (stepped k o s d))
+    by-tests r w o = cond r (after-reset k s) (cond w (after-wait s (pause k s)) (stepped k o s (later-delays k s d)))
 
     stops-by : (r w : Bool) (o : Outcome (k .P)) (e : CoreFault × ℕ) → _≡_ {A = Result Bool (CoreFault × ℕ)} (cond r (Ok false) (cond w (Ok false) (told-of k o s))) (Err e) → by-tests r w o .run ≡ false
     stops-by true w o e h = cc
@@ -84,7 +84,7 @@ module _ (k : Core) (f : CoreFacts k) where
     pub fault-stops : s .run ≡ true → (e : CoreFault × ℕ) → told k s ≡ Err e → tick k s d .run ≡ false
     fault-stops on e h = ap (λ x. cond x (clocked k s d) s .run) on ∙ stops-by (s .reset) (ltb 0 (pause k s)) (k .step (s .core) (s .words)) e h
 
-    keeps-reset : (o : Outcome (k .P)) → stepped k o s d .reset ≡ s .reset
+    keeps-reset : (o : Outcome (k .P)) → stepped k o s (later-delays k s d) .reset ≡ s .reset
     keeps-reset (more p ws) = refl
     keeps-reset (done z p ws) = refl
     keeps-reset (failed c a) = refl
@@ -131,7 +131,7 @@ module _ (k : Core) (f : CoreFacts k) where
   -- the clock that takes the reset
   pub tick-reset : (s : State (k .P)) (d : Delays) → s .run ≡ true → s .reset ≡ true → tick k s d ≡ after-reset k s
   tick-reset s d on re =
-      ap (λ x. cond x (clocked k s d) s) on ∙ ap (λ x. cond x (after-reset k s) (cond (ltb 0 (pause k s)) (after-wait s (pause k s)) (stepped k (k .step (s .core) (s .words)) s d))) re
+      ap (λ x. cond x (clocked k s d) s) on ∙ ap (λ x. cond x (after-reset k s) (cond (ltb 0 (pause k s)) (after-wait s (pause k s)) (stepped k (k .step (s .core) (s .words)) s (later-delays k s d)))) re
 
   pub told-reset : (s : State (k .P)) → s .reset ≡ true → told k s ≡ Ok false
   told-reset s re = ap (λ x. cond x (Ok false) (cond (ltb 0 (pause k s)) (Ok false) (told-of k (k .step (s .core) (s .words)) s))) re

@@ -15,7 +15,7 @@ use Rattle.onebus.specs.declared.fault.CoreFault.{CoreFault}
 use Rattle.run_control.specs.declared.faults.MachineFault.{MachineFault}
 use Rattle.run_control.specs.Core.{Core, CoreFacts, Outcome}
 use Rattle.run_control.specs.Core.Outcome.{more, done, failed}
-use Rattle.run_control.specs.State.{State, Delays, Going, begin, turn, run-on, tick, clocked, told, told-of, ends, fault-in, answer-of, pause, stepped, after-wait, after-reset}
+use Rattle.run_control.specs.State.{State, Delays, Going, begin, turn, run-on, tick, clocked, told, told-of, ends, fault-in, answer-of, pause, stepped, later-delays, after-wait, after-reset}
 use Rattle.run_control.specs.Calls.{counted, clock-refusal, Spends, Clocks, ClocksBy}
 use Rattle.run_control.proofs.Follow.{fault-stops}
 
@@ -55,10 +55,10 @@ module _ (k : Core) (f : CoreFacts k) {X : Type 0} (delay : X → Delays) where
   rises-step (done z p ws) s d e = raised s (stepped k (done z p ws) s d) e refl refl (omega arith) (omega arith)
   rises-step (failed c a) s d e = raised s (stepped k (failed c a) s d) e refl refl (omega arith) (omega arith)
 
-  rises-by : (r w : Bool) (s : State (k .P)) (d : Delays) → s .reset ≡ r → Rises s (cond r (after-reset k s) (cond w (after-wait s (pause k s)) (stepped k (k .step (s .core) (s .words)) s d)))
+  rises-by : (r w : Bool) (s : State (k .P)) (d : Delays) → s .reset ≡ r → Rises s (cond r (after-reset k s) (cond w (after-wait s (pause k s)) (stepped k (k .step (s .core) (s .words)) s (later-delays k s d))))
   rises-by true w s d e = record { clocks = omega arith; waits = omega arith; finished = omega arith }
   rises-by false true s d e = raised s (after-wait s (pause k s)) e refl refl (omega arith) (omega arith)
-  rises-by false false s d e = rises-step (k .step (s .core) (s .words)) s d e
+  rises-by false false s d e = rises-step (k .step (s .core) (s .words)) s (later-delays k s d) e
 
   pub tick-rises : (s t : State (k .P)) (d : Delays) → s .run ≡ true → t ≡ tick k s d → Rises s t
   tick-rises s t d on e = subst (λ x. Rises s x) (sym (e ∙ ap (λ b. cond b (clocked k s d) s) on)) (rises-by (s .reset) (ltb 0 (pause k s)) s d refl)

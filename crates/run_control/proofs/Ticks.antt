@@ -19,7 +19,7 @@ use Rattle.onebus.specs.Faults.{cause-of}
 use Rattle.rows.specs.Runs.{Fits}
 use Rattle.run_control.specs.Core.{Core, CoreFacts, Refined, Outcome, andThen, steps, seen, Quiet, Same}
 use Rattle.run_control.specs.Core.Outcome.{more, done, failed}
-use Rattle.run_control.specs.State.{State, Delays, due, delay-at, pause, after-wait, after-more, after-end, after-reset, after-fault, stepped, clocked, tick, told-of, told, core-fault}
+use Rattle.run_control.specs.State.{State, Delays, due, delay-at, pause, after-wait, after-more, after-end, after-reset, after-fault, stepped, later-delays, clocked, tick, told-of, told, core-fault}
 use Rattle.run_control.specs.Feeding.{Fed, Fault, done-one, instruct}
 use Rattle.run_control.proofs.Fits.{Keeps, keeps}
 
@@ -314,15 +314,20 @@ module _ (k : Core) (f : CoreFacts k) where
         subst (λ x. Ties (after-fault k s) x (Some (fault-of-clock (core-fault k s c a, k .origin (s .core))))) (sym (instruct-on b (sym (h .run) ∙ on)))
         (land-failed c a (instruction (b .book .visible)) (l .same) (keeps (b .book .visible) (h .fit)) (fetched s b (h .fit) m c a e) (l .count))
 
+  module _ (s : State (k .P)) (b : Fed) (o : Option Fault) (d : Delays) (h : Ties s b o) (on : s .run ≡ true) (calm : s .reset ≡ false) (sd : Short d) where
+    short-by : (w : Bool) → Short (cond w d (s .delays))
+    short-by true = sd
+    short-by false = h .short
+
     abbrev clock-state : Bool → State (k .P)
-    clock-state w = cond w (after-wait s (pause k s)) (stepped k (k .step (s .core) (s .words)) s d)
+    clock-state w = cond w (after-wait s (pause k s)) (stepped k (k .step (s .core) (s .words)) s (later-delays k s d))
 
     abbrev clock-told : Bool → Result Bool (CoreFault × ℕ)
     clock-told w = cond w (Ok false) (told-of k (k .step (s .core) (s .words)) s)
 
     by-wait : (w : Bool) → ltb 0 (pause k s) ≡ w → Ties (clock-state w) (told-book (clock-told w) b) (told-stands (clock-told w) o)
-    by-wait true e = goes-on (after-wait s (pause k s)) (h .short) refl refl refl refl (wait-mid s b (h .fit) m (h .short) (ltb-true 0 (pause k s) e))
-    by-wait false e = by-step (k .step (s .core) (s .words)) refl
+    by-wait true e = goes-on s b o d h on calm sd (after-wait s (pause k s)) (h .short) refl refl refl refl (wait-mid s b (h .fit) (h .going on) (h .short) (ltb-true 0 (pause k s) e))
+    by-wait false e = by-step s b o (later-delays k s d) h on calm (short-by (k .waits (s .core))) (k .step (s .core) (s .words)) refl
 
     -- one clock, with no reset waiting
     pub tick-ties : Ties (tick k s d) (told-book (told k s) b) (told-stands (told k s) o)

@@ -128,9 +128,13 @@ module _ (k : Core) where
   abbrev pub pause : State (k .P) → ℕ
   pause s = cond (k .waits (s .core)) (due (s .left) (delay-at (k .address (s .core)) (s .words) (s .delays))) 0
 
+  -- the delays after the step at hand: those that the memory has then, d, where it is a Wait step; no other step changes them
+  abbrev pub later-delays : State (k .P) → Delays → Delays
+  later-delays s d = cond (k .waits (s .core)) d (s .delays)
+
   -- one clock of a running machine
   abbrev pub clocked : State (k .P) → Delays → State (k .P)
-  clocked s d = cond (s .reset) (after-reset s) (cond (ltb 0 (pause s)) (after-wait s (pause s)) (stepped (k .step (s .core) (s .words)) s d))
+  clocked s d = cond (s .reset) (after-reset s) (cond (ltb 0 (pause s)) (after-wait s (pause s)) (stepped (k .step (s .core) (s .words)) s (later-delays s d)))
 
   -- one clock; a stopped machine stays as it is
   abbrev pub tick : State (k .P) → Delays → State (k .P)

@@ -1,0 +1,124 @@
+// The calls on a machine.
+ghost use mathlib.Core.Path.{_≡_};
+ghost use Rattle.run_control.specs.OneBus.{one-bus};
+ghost use Rattle.run_control.specs.Calls.{set-up, start-answer, start-state, resume-answer, resume-state, reset-answer, reset-state, register-answer, register-state, word-answer, word-state, load-answer, load-state};
+ghost use Rattle.machine.specs.View.{view, lent};
+use crate::frame::Machine;
+use memory::Memory;
+use memory::MemoryFault;
+use onebus::Core;
+use run_control::Refusal;
+
+impl<M: Memory> Machine<M> {
+    pub fn set_up(memory: M) -> Machine<M>
+        ensures state { λ r. ⌜ view M·Memory r ≡ set-up one-bus (M·Memory .words memory) (M·Memory .delay memory) ⌝ }
+        ensures lent { λ r. ⌜ lent M·Memory r ≡ M·Memory .frame memory ⌝ }
+    {
+        Machine {
+            memory,
+            core: Core::new(),
+            run: false,
+            mark: false,
+            reset: false,
+            left: None,
+            clocks: 0,
+            waits: 0,
+            finished: 0,
+        }
+    }
+
+    pub fn start(&mut self) -> Result<(), Refusal>
+        ensures answer { λ r. ⌜ r ≡ start-answer (view M·Memory (now (self .entry))) ⌝ }
+        ensures state { λ _. ⌜ view M·Memory (now (self .exit)) ≡ start-state one-bus (view M·Memory (now (self .entry))) ⌝ }
+        ensures lent { λ _. ⌜ lent M·Memory (now (self .exit)) ≡ lent M·Memory (now (self .entry)) ⌝ }
+    {
+        if self.run {
+            return Err(Refusal::Running);
+        }
+        self.core.start();
+        self.run = true;
+        self.mark = false;
+        self.left = None;
+        self.clocks = 0;
+        self.waits = 0;
+        self.finished = 0;
+        Ok(())
+    }
+
+    pub fn resume(&mut self) -> Result<(), Refusal>
+        ensures answer { λ r. ⌜ r ≡ resume-answer (view M·Memory (now (self .entry))) ⌝ }
+        ensures state { λ _. ⌜ view M·Memory (now (self .exit)) ≡ resume-state one-bus (view M·Memory (now (self .entry))) ⌝ }
+        ensures lent { λ _. ⌜ lent M·Memory (now (self .exit)) ≡ lent M·Memory (now (self .entry)) ⌝ }
+    {
+        if self.run {
+            return Err(Refusal::Running);
+        }
+        if self.mark {
+            return Err(Refusal::FaultMark);
+        }
+        self.core.resume();
+        self.run = true;
+        self.left = None;
+        self.clocks = 0;
+        self.waits = 0;
+        self.finished = 0;
+        Ok(())
+    }
+
+    pub fn reset(&mut self) -> Result<(), Refusal>
+        ensures answer { λ r. ⌜ r ≡ reset-answer (view M·Memory (now (self .entry))) ⌝ }
+        ensures state { λ _. ⌜ view M·Memory (now (self .exit)) ≡ reset-state (view M·Memory (now (self .entry))) ⌝ }
+        ensures lent { λ _. ⌜ lent M·Memory (now (self .exit)) ≡ lent M·Memory (now (self .entry)) ⌝ }
+    {
+        if !self.run {
+            return Err(Refusal::Stopped);
+        }
+        self.reset = true;
+        Ok(())
+    }
+
+    pub fn set_register(&mut self, number: u32, value: u32) -> Result<(), Refusal>
+        ensures answer { λ r. ⌜ r ≡ register-answer (view M·Memory (now (self .entry))) number ⌝ }
+        ensures state { λ _. ⌜ view M·Memory (now (self .exit)) ≡ register-state one-bus (view M·Memory (now (self .entry))) number value ⌝ }
+        ensures lent { λ _. ⌜ lent M·Memory (now (self .exit)) ≡ lent M·Memory (now (self .entry)) ⌝ }
+    {
+        if self.run {
+            return Err(Refusal::Running);
+        }
+        if number >= 32 {
+            return Err(Refusal::NoRegister { number });
+        }
+        self.core.set_register(number as usize, value);
+        Ok(())
+    }
+
+    pub fn set_word(&mut self, number: u32, value: u32) -> Result<(), Refusal>
+        ensures answer { λ r. ⌜ r ≡ word-answer (view M·Memory (now (self .entry))) number ⌝ }
+        ensures state { λ _. ⌜ view M·Memory (now (self .exit)) ≡ word-state (view M·Memory (now (self .entry))) number value (M·Memory .delay (now (self .exit) .memory)) ⌝ }
+        ensures lent { λ _. ⌜ lent M·Memory (now (self .exit)) ≡ lent M·Memory (now (self .entry)) ⌝ }
+    {
+        if self.run {
+            return Err(Refusal::Running);
+        }
+        let size = self.memory.size();
+        if number >= size {
+            return Err(Refusal::NoWord(MemoryFault { number, size }));
+        }
+        let _ = self.memory.write(number, value);
+        Ok(())
+    }
+
+    pub fn load(&mut self, bytes: &[u8]) -> Result<(), Refusal>
+        ensures answer { λ r. ⌜ r ≡ load-answer (view M·Memory (now (self .entry))) (now (bytes .entry)) ⌝ }
+        ensures state { λ _. ⌜ view M·Memory (now (self .exit)) ≡ load-state (view M·Memory (now (self .entry))) (now (bytes .entry)) (M·Memory .delay (now (self .exit) .memory)) ⌝ }
+        ensures lent { λ _. ⌜ lent M·Memory (now (self .exit)) ≡ lent M·Memory (now (self .entry)) ⌝ }
+    {
+        if self.run {
+            return Err(Refusal::Running);
+        }
+        match image::load(&mut self.memory, bytes) {
+            Ok(()) => Ok(()),
+            Err(refusal) => Err(Refusal::Image(refusal)),
+        }
+    }
+}
