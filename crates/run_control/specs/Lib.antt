@@ -6,3 +6,4 @@ pub mod Feeding
 pub mod Whole
 pub mod OneBus
 pub mod Examples
+pub mod Texts

@@ -3,6 +3,7 @@ mod calls;
 mod faults;
 mod laws;
 mod refusals;
+mod text;
 
 pub use calls::Answer;
 pub use calls::Call;
@@ -14,3 +15,5 @@ pub use laws::programs_run;
 pub use laws::resets_leave_whole_instructions;
 pub use refusals::Refusal;
 pub use refusals::RefusalDisplay;
+pub use text::AnswerDisplay;
+pub use text::MachineFaultDisplay;
