@@ -10,6 +10,7 @@ use onebus::Core;
 use run_control::Refusal;
 
 impl<M: Memory> Machine<M> {
+    /// A stopped machine over the memory, with its core and its counts all 0.
     pub fn set_up(memory: M) -> Machine<M>
         ensures state { λ r. ⌜ view M·Memory r ≡ set-up one-bus (M·Memory .words memory) (M·Memory .delay memory) ⌝ }
         ensures lent { λ r. ⌜ lent M·Memory r ≡ M·Memory .frame memory ⌝ }
@@ -27,6 +28,7 @@ impl<M: Memory> Machine<M> {
         }
     }
 
+    /// Runs from PC 0, with the registers and the counts zeroed and no fault standing. Refused while the machine runs.
     pub fn start(&mut self) -> Result<(), Refusal>
         ensures answer { λ r. ⌜ r ≡ start-answer (view M·Memory (now (self .entry))) ⌝ }
         ensures state { λ _. ⌜ view M·Memory (now (self .exit)) ≡ start-state one-bus (view M·Memory (now (self .entry))) ⌝ }
@@ -45,6 +47,7 @@ impl<M: Memory> Machine<M> {
         Ok(())
     }
 
+    /// Runs from PC, with the counts zeroed. Refused while the machine runs, then where a fault stands.
     pub fn resume(&mut self) -> Result<(), Refusal>
         ensures answer { λ r. ⌜ r ≡ resume-answer (view M·Memory (now (self .entry))) ⌝ }
         ensures state { λ _. ⌜ view M·Memory (now (self .exit)) ≡ resume-state one-bus (view M·Memory (now (self .entry))) ⌝ }
@@ -65,6 +68,7 @@ impl<M: Memory> Machine<M> {
         Ok(())
     }
 
+    /// Lets a reset wait for the next clock. Refused while the machine is stopped.
     pub fn reset(&mut self) -> Result<(), Refusal>
         ensures answer { λ r. ⌜ r ≡ reset-answer (view M·Memory (now (self .entry))) ⌝ }
         ensures state { λ _. ⌜ view M·Memory (now (self .exit)) ≡ reset-state (view M·Memory (now (self .entry))) ⌝ }
@@ -77,6 +81,7 @@ impl<M: Memory> Machine<M> {
         Ok(())
     }
 
+    /// Refused while the machine runs, then for a number above 31.
     pub fn set_register(&mut self, number: u32, value: u32) -> Result<(), Refusal>
         ensures answer { λ r. ⌜ r ≡ register-answer (view M·Memory (now (self .entry))) number ⌝ }
         ensures state { λ _. ⌜ view M·Memory (now (self .exit)) ≡ register-state one-bus (view M·Memory (now (self .entry))) number value ⌝ }
@@ -92,6 +97,7 @@ impl<M: Memory> Machine<M> {
         Ok(())
     }
 
+    /// Refused while the machine runs, then for a number that is not below the memory's size.
     pub fn set_word(&mut self, number: u32, value: u32) -> Result<(), Refusal>
         ensures answer { λ r. ⌜ r ≡ word-answer (view M·Memory (now (self .entry))) number ⌝ }
         ensures state { λ _. ⌜ view M·Memory (now (self .exit)) ≡ word-state (view M·Memory (now (self .entry))) number value (M·Memory .delay (now (self .exit) .memory)) ⌝ }
@@ -108,6 +114,7 @@ impl<M: Memory> Machine<M> {
         Ok(())
     }
 
+    /// Sets the words that the image at the end of `bytes` lists. Refused while the machine runs, then as reading the image for this memory is.
     pub fn load(&mut self, bytes: &[u8]) -> Result<(), Refusal>
         ensures answer { λ r. ⌜ r ≡ load-answer (view M·Memory (now (self .entry))) (now (bytes .entry)) ⌝ }
         ensures state { λ _. ⌜ view M·Memory (now (self .exit)) ≡ load-state (view M·Memory (now (self .entry))) (now (bytes .entry)) (M·Memory .delay (now (self .exit) .memory)) ⌝ }

@@ -113,6 +113,7 @@ impl<M: Memory> Machine<M> {
         self.advance()
     }
 
+    /// Spends so many clocks, or fewer where the machine stops or faults: the clocks spent and the instructions finished, or the fault. Refused while the machine is stopped, then unless 1 to 1,000,000 are wanted, then where the count of clocks would pass 10^12.
     pub fn clock(&mut self, wanted: u64) -> Result<Result<(u64, u64), MachineFault>, Refusal>
         ensures clocks { λ r. ⌜ Clocks one-bus (M·Memory .delay) (view M·Memory (now (self .entry))) wanted r (view M·Memory (now (self .exit))) ⌝ }
         ensures lent { λ _. ⌜ lent M·Memory (now (self .exit)) ≡ lent M·Memory (now (self .entry)) ⌝ }

@@ -8,8 +8,11 @@ pub struct Machine<M> {
     pub(crate) memory: M,
     pub(crate) core: Core,
     pub(crate) run: bool,
+    // does a fault stand?
     pub(crate) mark: bool,
+    // does a reset wait?
     pub(crate) reset: bool,
+    // the waits left of a Wait step that has begun
     pub(crate) left: Option<u8>,
     pub(crate) clocks: u64,
     pub(crate) waits: u64,

@@ -1,4 +1,4 @@
-//! The machine.
+//! The machine: run control around the one-bus core over any memory, its calls, what it tells, and lists of calls.
 mod calls;
 mod clock;
 mod frame;

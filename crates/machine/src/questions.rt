@@ -7,6 +7,7 @@ use memory::Memory;
 use run_control::Refusal;
 
 impl<M: Memory> Machine<M> {
+    /// The value of a register: there are 32.
     pub fn register(&self, number: u32) -> Result<u32, Refusal>
         ensures { λ r. ⌜ r ≡ register-asked (view M·Memory (now (self .entry))) number ⌝ }
     {
@@ -28,6 +29,7 @@ impl<M: Memory> Machine<M> {
         }
     }
 
+    /// The program counter.
     pub fn pc(&self) -> u32
         ensures { λ r. ⌜ r ≡ pc-of (view M·Memory (now (self .entry))) ⌝ }
     {
