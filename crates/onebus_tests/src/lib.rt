@@ -1,51 +1,49 @@
 // Runs of the core on small programs.
-use memory::WordMemory;
-use memory::WordMemoryMemory;
-use onebus::Core;
-use onebus::CoreFault;
-use onebus::Progress;
-
-/// How one instruction went: its steps, and whether it stopped the machine or faulted.
-#[derive(Drop)]
-pub struct Run {
-    pub steps: u32,
-    pub stops: bool,
-    pub fault: Option<CoreFault>,
-}
-
-/// One instruction, or 64 steps of it.
-pub fn one_instruction(core: &mut Core, words: &mut [u32]) -> Run {
-    let mut memory = WordMemory::new(words);
-    for steps in 1..65u32 {
-        match core.step(&mut memory) {
-            Ok(Progress::Within) => {}
-            Ok(Progress::Finished { stops }) => {
-                return Run {
-                    steps,
-                    stops,
-                    fault: None,
-                };
-            }
-            Err(fault) => {
-                return Run {
-                    steps,
-                    stops: false,
-                    fault: Some(fault),
-                };
-            }
-        }
-    }
-    Run {
-        steps: 64,
-        stops: false,
-        fault: None,
-    }
-}
-
 #[cfg(test)]
 mod tests {
-    use super::*;
+    use memory::WordMemory;
+    use memory::WordMemoryMemory;
+    use onebus::Core;
+    use onebus::CoreFault;
+    use onebus::Progress;
     use std::test::*;
+
+    // How one instruction went: its steps, and whether it stopped the machine or faulted.
+    #[derive(Drop)]
+    struct Run {
+        steps: u32,
+        stops: bool,
+        fault: Option<CoreFault>,
+    }
+
+    // One instruction, or 64 steps of it.
+    fn one_instruction(core: &mut Core, words: &mut [u32]) -> Run {
+        let mut memory = WordMemory::new(words);
+        for steps in 1..65u32 {
+            match core.step(&mut memory) {
+                Ok(Progress::Within) => {}
+                Ok(Progress::Finished { stops }) => {
+                    return Run {
+                        steps,
+                        stops,
+                        fault: None,
+                    };
+                }
+                Err(fault) => {
+                    return Run {
+                        steps,
+                        stops: false,
+                        fault: Some(fault),
+                    };
+                }
+            }
+        }
+        Run {
+            steps: 64,
+            stops: false,
+            fault: None,
+        }
+    }
 
     // brl r5, r5, r0, 1: PC takes the old R5
     #[test]
