@@ -1,5 +1,6 @@
 // The board: the memory that the machine is set up over.
 ghost use mathlib.Core.Path.{_≡_};
+ghost use Rattle.std.specs.declared.option.Option.the-variants.{None};
 ghost use Rattle.src_sim.specs.Boards.{described};
 use memory::ByteMemory;
 use memory::ByteMemoryMemory;
@@ -46,7 +47,7 @@ pub type Pile<'a> = OpenRow<SlowStretch<Pair<WordMemory<'a>, ByteMemory<'a>>>>;
 
 impl Board {
     // The board with one part described anew.
-    pub fn with(self, part: BoardPart) -> Board
+    pub(crate) fn with(self, part: BoardPart) -> Board
         ensures { λ r. ⌜ r ≡ described self part ⌝ }
     {
         match part {
@@ -67,7 +68,12 @@ impl Board {
     }
 
     // The memory of the board, over words and bytes that are lent.
-    pub fn pile<'a>(self, words: &'a mut [u32], bytes: &'a mut [u8]) -> Pile<'a> {
+    pub(crate) fn pile<'a>(self, words: &'a mut [u32], bytes: &'a mut [u8]) -> Pile<'a>
+        ensures words { λ r. ⌜ now (r .below .below .first .words) ≡ now (words .entry) ⌝ }
+        ensures bytes { λ r. ⌜ now (r .below .below .second .bytes) ≡ now (bytes .entry) ⌝ }
+        ensures stretch { λ r. ⌜ (r .below .first ≡ self .first) × (r .below .length ≡ self .length) × (r .below .extra ≡ self .extra) ⌝ }
+        ensures row { λ r. ⌜ (r .extra ≡ self .row) × (r .row ≡ None) ⌝ }
+    {
         let pair = Pair::new(WordMemory::new(words), ByteMemory::new(bytes));
         OpenRow::new(
             SlowStretch::new(pair, self.first, self.length, self.extra),

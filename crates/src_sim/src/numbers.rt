@@ -51,7 +51,7 @@ fn marked(bytes: &[u8]) -> bool
 }
 
 // A number in decimal, or in hexadecimal after `0x`.
-pub fn number(text: &str) -> Option<u64>
+pub(crate) fn number(text: &str) -> Option<u64>
     ensures { λ r. ⌜ r ≡ number-of (now (text .entry)) ⌝ }
 {
     let bytes = text.as_bytes();
@@ -63,7 +63,7 @@ pub fn number(text: &str) -> Option<u64>
 }
 
 // The number, or the largest of 32 bits where it is larger.
-pub fn capped(number: u64) -> u32
+pub(crate) fn capped(number: u64) -> u32
     ensures { λ r. ⌜ r ≡ min 4294967295 number ⌝ }
 {
     if number < 4_294_967_295 {
