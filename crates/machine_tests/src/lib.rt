@@ -23,14 +23,14 @@ mod tests {
     use std::alloc::Global;
     use std::test::*;
 
-    /// A machine that has been started.
+    // A machine that has been started.
     fn started<M: Memory>(memory: M) -> Machine<M> {
         let mut machine = Machine::set_up(memory);
         let _ = machine.start();
         machine
     }
 
-    /// A clock call tells no fault: the clocks spent, and the instructions finished.
+    // A clock call tells no fault: the clocks spent, and the instructions finished.
     fn spends<M: Memory>(
         machine: &mut Machine<M>,
         wanted: u64,
@@ -43,7 +43,7 @@ mod tests {
         }
     }
 
-    /// A register's value.
+    // A register's value.
     fn holds<M: Memory>(machine: &Machine<M>, number: u32, value: u32) -> Result<(), Fail> {
         match machine.register(number) {
             Ok(found) => check_eq(found, value),
@@ -51,7 +51,7 @@ mod tests {
         }
     }
 
-    /// A word's value.
+    // A word's value.
     fn stores<M: Memory>(machine: &mut Machine<M>, number: u32, value: u32) -> Result<(), Fail> {
         match machine.word(number) {
             Ok(found) => check_eq(found, value),
@@ -59,7 +59,7 @@ mod tests {
         }
     }
 
-    /// The counts of clocks, waits and finished instructions.
+    // The counts of clocks, waits and finished instructions.
     fn counts<M: Memory>(
         machine: &Machine<M>,
         clocks: u64,
@@ -72,7 +72,7 @@ mod tests {
         )
     }
 
-    /// The call is refused by that number.
+    // The call is refused by that number.
     fn refused<T: Drop>(answer: Result<T, Refusal>, number: u8) -> Result<(), Fail> {
         match answer {
             Ok(_) => Err(Fail::new("a call is accepted")),
