@@ -4,8 +4,6 @@ mod bytes;
 mod command;
 mod complaint;
 mod numbers;
-#[cfg(test)]
-mod tests;
 
 use crate::board::Board;
 use crate::board::BoardPart;
