@@ -1,4 +1,6 @@
 // Program images: bytes that list words of a memory, how they are read, and what they set.
+#![tactic(auto)]
+
 mod image;
 mod listing;
 mod loading;

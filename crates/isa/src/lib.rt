@@ -1,4 +1,6 @@
 // Instruction words of 32 bits: their fields, what each says, its line of text, and the book machine that does them.
+#![tactic(auto)]
+
 mod addressing;
 mod decoder;
 mod entry;

@@ -1,4 +1,5 @@
 // Lines of words, form by form, with the smallest and the largest constants.
+#![tactic(auto)]
 
 #[cfg(test)]
 mod tests {

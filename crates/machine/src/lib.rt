@@ -1,4 +1,6 @@
 //! The machine: run control around the one-bus core over any memory, its calls, what it tells, and lists of calls.
+#![tactic(auto)]
+
 mod calls;
 mod clock;
 mod frame;

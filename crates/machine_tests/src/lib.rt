@@ -1,4 +1,5 @@
 // Tests of the machine: worked values of whole runs, and every refusal that a call can reach.
+#![tactic(auto)]
 
 #[cfg(test)]
 mod tests {

@@ -1,4 +1,6 @@
 //! Memories of words with delays: one meaning, five memories, and any pile of them.
+#![tactic(auto)]
+
 mod byte_memory;
 mod delays;
 mod edits;

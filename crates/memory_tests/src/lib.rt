@@ -1,4 +1,6 @@
 //! Piles of memories in use, and tests of the edges.
+#![tactic(auto)]
+
 mod piles;
 #[cfg(test)]
 mod tests;

@@ -1,4 +1,6 @@
 // The one-bus core: its registers, its control store, and one control step over any memory.
+#![tactic(auto)]
+
 mod control;
 mod core;
 mod datapath;

@@ -1,4 +1,6 @@
 // Runs of the core on small programs.
+#![tactic(auto)]
+
 #[cfg(test)]
 mod tests {
     use memory::WordMemory;

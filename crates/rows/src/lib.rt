@@ -1,4 +1,6 @@
 // The control signals and rows of the one-bus core, and the proof that the rows do what the book says.
+#![tactic(auto)]
+
 mod laws;
 mod signal;
 

@@ -1,4 +1,6 @@
 //! Run control around a core: the calls on a machine, their answers, and what holds after every list of them.
+#![tactic(auto)]
+
 mod calls;
 mod faults;
 mod laws;

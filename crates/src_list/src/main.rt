@@ -1,4 +1,6 @@
 // Lists a program image: `src_list FILE`.
+#![tactic(auto)]
+
 use anyhow::anyhow;
 use image::{Image, ImagePart, read};
 use isa::Entry;

@@ -1,4 +1,6 @@
 // Runs a script of calls on a machine, read from standard input, or with `src_sim FILE` the program in an image.
+#![tactic(auto)]
+
 mod board;
 mod bytes;
 mod command;

@@ -7,4 +7,4 @@ use Rattle.isa.proofs.line.LineDisplay.fmt.Goals as goal
 pub returns-in-None-clause-writes : goal.returns-in-None-clause-writes
 returns-in-None-clause-writes g c plain ok =
     subst (λ (o : Option Instruction). HasWritten g.W.Write.write_str_gives c.args.f.now (form_text o c.args.self.now.0) c.write-in-None.new.self)
-    c.in-None.ensures (c.write-in-None.ensures.shows plain ok)
+    c.in-None.ensures (c.write-in-None.ensures.writes plain ok)
