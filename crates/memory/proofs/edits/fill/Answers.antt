@@ -12,10 +12,10 @@ all n k v ws xs h i e = e ∙ ap (λ (l : List ℕ). replicate n v ++ l) (drop_a
 
 pub loop-number-preserved : goal.loop-number-preserved
 loop-number-preserved g c =
-    let long = ap length c.size-number-end.ensures.words-kept in
+    let long = ap length c.size-number-end.ensures.words_kept in
     let ws = g.M.Memory.words c.size-number-end.new.self in
     let w = c.write.ensures in
-    (more _ _ ws _ _ (omega arith) c.loop-number.invariant.0 w.word-set, (λ none. absurd (omega arith)), w.frame-kept ∙ c.loop-number.invariant.2)
+    (more _ _ ws _ _ (omega arith) c.loop-number.invariant.0 w.word_set, (λ none. absurd (omega arith)), w.frame_kept ∙ c.loop-number.invariant.2)
 
 pub returns : goal.returns
 returns g c =
