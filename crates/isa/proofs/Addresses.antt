@@ -1,5 +1,5 @@
 -- The codes of the operations that name an address. Assumes nothing.
-use Rattle.std.proofs.Common.{◌≡◌, ℕ, cond, eqb, ◌⊎◌, List, [], get_or, Some, Option, sym, refl, ap, ◌∙◌, subst, ⊎_elim}
+use Rattle.std.proofs.Common.{◌≡◌, ℕ, eqb, ◌⊎◌, List, [], get_or, Some, sym, refl, ap, ◌∙◌, subst, ⊎_elim}
 use Rattle.std.proofs.lemmas.Bool.{cond-true, cond-false, eq-eqb, ne_eqb}
 use Rattle.isa.specs.Fields.{op_of, rb_of, c1_of, c2_of, word_of}
 use Rattle.isa.specs.Arithmetic.{plus}

@@ -1,15 +1,14 @@
 -- The fields that a line shows determine the word. Assumes nothing.
-use Rattle.std.proofs.Common.{◌≡◌, ℕ, ◌+◌, ◌-◌, ◌*◌, ◌/◌, ◌%◌, ◌^◌, ◌<◌, Bool, true, false, cond, not, ◌||◌, eqb, ltb, ℤ, pos, negsuc, Some, None, Option, sym, refl, ap, ◌∙◌, subst, div-one, arith}
+use Rattle.std.proofs.Common.{◌≡◌, ℕ, ◌+◌, ◌-◌, ◌*◌, ◌/◌, ◌%◌, ◌^◌, ◌<◌, Bool, true, false, cond, eqb, ltb, pos, negsuc, Some, None, Option, sym, refl, ap, ◌∙◌, subst, div-one, arith}
 use Rattle.std.proofs.lemmas.Bool.{eqb-true, cond_both, not-false, or_parts}
 use Rattle.std.proofs.lemmas.Nat.{mod-pow-add}
-use Rattle.isa.specs.Fields.{bits, extended, op_of, ra_of, rb_of, rc_of, c1_of, c2_of, count_of, when_of}
-use Rattle.isa.specs.Operations.{Mode, Op, operation}
+use Rattle.isa.specs.Fields.{bits, op_of, ra_of, rb_of, rc_of, c1_of, c2_of, count_of, when_of}
+use Rattle.isa.specs.Operations.{Op, operation}
 use Rattle.isa.specs.Operations.Mode.{displaced, relative}
 use Rattle.isa.specs.Operations.Op.{nop, stop, br, brl, unassigned, transfer, binary, immediate, unary, shift}
-use Rattle.isa.specs.Instructions.{said, stray, set_in, displaced_instruction, shift_instruction}
-use Rattle.isa.specs.Lines.{clean, formed, form_of}
+use Rattle.isa.specs.Instructions.{said, set_in}
+use Rattle.isa.specs.Lines.{clean, formed}
 use Rattle.isa.specs.Encoding.{transfer_code, relative_code, binary_code, immediate_code, unary_code, shift_code, within, packed, encoded, Encodes}
-use Rattle.isa.specs.declared.operation.Transfer.TheVariants.{Load, Store, Address}
 use Rattle.isa.specs.declared.instruction.Instruction.{Instruction}
 use Rattle.isa.specs.declared.instruction.Instruction.TheVariants as i
 

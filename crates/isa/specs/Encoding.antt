@@ -1,5 +1,5 @@
 -- The word of an instruction, from its fields. Assumes nothing.
-use Rattle.std.specs.Prelude.{◌≡◌, ℕ, ◌+◌, ◌-◌, ◌*◌, ◌^◌, ◌<◌, ℤ, pos, negsuc, Some}
+use Rattle.std.specs.Prelude.{◌≡◌, ℕ, ◌+◌, ◌-◌, ◌*◌, ◌^◌, ℤ, pos, negsuc, Some}
 use Rattle.isa.specs.Lines.{form_of}
 use Rattle.isa.specs.declared.operation.Transfer.{Transfer}
 use Rattle.isa.specs.declared.operation.Transfer.TheVariants.{Load, Store, Address}

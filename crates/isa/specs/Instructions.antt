@@ -1,7 +1,7 @@
 -- What a word says: the form of its instruction, with the fields that its line shows. Assumes nothing.
 use Rattle.std.specs.Prelude.{ℕ, Bool, false, cond, not, ◌||◌, Some, None, Option, ◌==◌}
 use Rattle.isa.specs.Fields.{bits, op_of, ra_of, rb_of, rc_of, c1_of, c2_of, count_of, when_of}
-use Rattle.isa.specs.Operations.{Mode, Op, operation}
+use Rattle.isa.specs.Operations.{Op, operation}
 use Rattle.isa.specs.Operations.Mode.{displaced, relative}
 use Rattle.isa.specs.Operations.Op.{nop, stop, br, brl, unassigned, transfer, binary, immediate, unary, shift}
 use Rattle.isa.specs.declared.operation.Transfer.{Transfer}

@@ -1,5 +1,5 @@
 -- The line of a word: the form of its instruction as text, or its eight digits. Assumes nothing.
-use Rattle.std.specs.Prelude.{ℕ, Bool, true, false, cond, List, [], ◌∷◌, ◌++◌, ℤ, pos, Some, None, codes, decimal, Option}
+use Rattle.std.specs.Prelude.{ℕ, Bool, true, false, List, [], ◌∷◌, ◌++◌, ℤ, pos, Some, None, codes, decimal, Option}
 use Rattle.std.specs.Fmt.{signed_decimal, digit_glyph}
 use Rattle.isa.specs.Fields.{bits}
 use Rattle.isa.specs.Instructions.{decoded, stray}

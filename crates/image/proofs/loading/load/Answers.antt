@@ -6,16 +6,16 @@ use Rattle.image.proofs.loading.load.Goals as goal
 pub set-segments-requires : goal.set-segments-requires
 set-segments-requires g c =
     let m = g.M.Memory in
-    let segments = segments_of c.in-ok-image.image in
-    let read = c.in-ok-image.ensures in
+    let segments = segments_of c.in_ok-image.image in
+    let read = c.in_ok-image.ensures in
     suits m.words m.delay m.frame c.args.memory.now c.size.new.self c.args.bytes.now c.size.result segments
     c.size.ensures.answer c.size.ensures.words-kept read.answer ((read.accepts segments).only refl).ordered
 
 pub returns : goal.returns
 returns g c =
     let m = g.M.Memory in
-    let segments = segments_of c.in-ok-image.image in
-    let read = c.in-ok-image.ensures in
+    let segments = segments_of c.in_ok-image.image in
+    let read = c.in_ok-image.ensures in
     loads m.words m.delay m.frame c.args.memory.now c.size.new.self c.args.bytes.now c.size.result segments
     c.size.ensures.answer c.size.ensures.words-kept read.answer ((read.accepts segments).only refl).ordered
     c.set-segments.new.memory c.set-segments.ensures.words c.set-segments.ensures.frame c.size.ensures.frame-kept

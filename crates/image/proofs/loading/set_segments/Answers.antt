@@ -3,7 +3,7 @@ use Rattle.image.specs.Views.{segment_of, segments_of}
 use Rattle.image.proofs.Loaded.{loaded_more, loaded_none, loaded_all, fits_now}
 use Rattle.image.proofs.Walks.{accepted_most}
 use Rattle.image.proofs.loading.set_segments.Goals as goal
-use Rattle.image.proofs.loading.set_segments.Goals.{in-Some, in-default}
+use Rattle.image.proofs.loading.set_segments.Goals.{in-Some, in_default}
 
 pub set-words-requires : goal.set-words-requires
 set-words-requires g c =
@@ -18,8 +18,8 @@ loop-i-preserved g c =
         loaded_more _ _ _ segments c.loop-i.i (segment_of w.in-Some.part) c.loop-i.invariant.0 w.in-Some.ensures (ap m.words w.memory-is ∙ w.set-words.ensures.words),
         ap m.frame w.memory-is ∙ w.set-words.ensures.frame ∙ c.loop-i.invariant.1,
       )
-      | in-default w ↦ (
-        loaded_none _ _ segments c.loop-i.i (ap m.words w.memory-is ∙ c.loop-i.invariant.0) w.in-default.ensures,
+      | in_default w ↦ (
+        loaded_none _ _ segments c.loop-i.i (ap m.words w.memory-is ∙ c.loop-i.invariant.0) w.in_default.ensures,
         ap m.frame w.memory-is ∙ c.loop-i.invariant.1,
       )
     ]

@@ -17,6 +17,6 @@ loop-word-preserved g c =
 
 pub returns : goal.returns
 returns g c = record {
-  words = stored_all _ _ (words_of c.args.part.now.words.now) c.args.part.now.first c.loop-word.k c.loop-word.invariant.1 c.in-default.ensures;
+  words = stored_all _ _ (words_of c.args.part.now.words.now) c.args.part.now.first c.loop-word.k c.loop-word.invariant.1 c.in_default.ensures;
   frame = c.loop-word.invariant.2;
 }

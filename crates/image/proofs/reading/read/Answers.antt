@@ -7,5 +7,5 @@ pub returns : goal.returns
 returns c = record {
   answer = c.opened.ensures.answer;
   counted = counted c.opened.result c.opened.ensures.whole;
-  accepts = accepts_exactly (told c.opened.result) c.args.size c.args.bytes.now c.opened.ensures.answer c.ranges.size.fits (λ i. (c.type-inv.bytes i).fits);
+  accepts = accepts_exactly (told c.opened.result) c.args.size c.args.bytes.now c.opened.ensures.answer c.ranges.size.fits (λ i. (c.type_inv.bytes i).fits);
 }

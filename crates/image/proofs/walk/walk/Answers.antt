@@ -5,35 +5,35 @@ use Rattle.image.specs.Views.{segment_of}
 use Rattle.image.proofs.Walks.{turn_past, turn_found, turned_down, ended, left_over}
 use Rattle.image.proofs.walk.walk.Goals as goal
 
-pub returns-in-err-before : goal.returns-in-err-before
-returns-in-err-before c =
+pub returns-in_err-before : goal.returns-in_err-before
+returns-in_err-before c =
     let l = c.loop-left in
-    let p = err_from_is_err_and c.from-residual.result c.from-residual.ensures.1 in
-    let refused = turned_down (option_map segment_of l.found) l.left c.args.wanted l.limit l.rest.now _ l.invariant.0 _ c.loop-left-test.true c.in-err-before.ensures in
+    let p = err_from_is_err_and c.from_residual.result c.from_residual.ensures.1 in
+    let refused = turned_down (option_map segment_of l.found) l.left c.args.wanted l.limit l.rest.now _ l.invariant.0 _ c.loop-left-test.true c.in_err-before.ensures in
     rw (p.1, p.2) refused
 
-pub returns-in-err-whole : goal.returns-in-err-whole
-returns-in-err-whole c =
+pub returns-in_err-whole : goal.returns-in_err-whole
+returns-in_err-whole c =
     let l = c.loop-left in
-    let p = err_from_is_err_and c.from-residual-in-err-whole.result c.from-residual-in-err-whole.ensures.1 in
-    let refused = left_over (option_map segment_of l.found) l.left c.args.wanted l.limit l.rest.now _ l.invariant.0 _ c.loop-left-test.false c.in-err-whole.ensures in
+    let p = err_from_is_err_and c.from_residual-in_err-whole.result c.from_residual-in_err-whole.ensures.1 in
+    let refused = left_over (option_map segment_of l.found) l.left c.args.wanted l.limit l.rest.now _ l.invariant.0 _ c.loop-left-test.false c.in_err-whole.ensures in
     rw (p.1, p.2) refused
 
 pub returns : goal.returns
 returns c =
     let l = c.loop-left in
-    ended (option_map segment_of l.found) l.left c.args.wanted l.limit l.rest.now _ l.invariant.0 _ c.loop-left-test.false c.in-ok-whole.ensures
+    ended (option_map segment_of l.found) l.left c.args.wanted l.limit l.rest.now _ l.invariant.0 _ c.loop-left-test.false c.in_ok-whole.ensures
 
 pub loop-left-preserved : goal.loop-left-preserved
 loop-left-preserved c =
     let l = c.loop-left in (
-      turn_past (option_map segment_of l.found) l.left c.args.wanted l.limit l.rest.now _ l.invariant.0 _ _ c.loop-left-test.true c.in-ok-before.ensures l.invariant.1 c.if-left-wanted.false,
+      turn_past (option_map segment_of l.found) l.left c.args.wanted l.limit l.rest.now _ l.invariant.0 _ _ c.loop-left-test.true c.in_ok-before.ensures l.invariant.1 c.if-left-wanted.false,
       λ e. omega (arith, l.invariant.1 e),
     )
 
 pub loop-left-preserved-then-left-wanted : goal.loop-left-preserved-then-left-wanted
 loop-left-preserved-then-left-wanted c =
     let l = c.loop-left in (
-      turn_found (option_map segment_of l.found) l.left c.args.wanted l.limit l.rest.now _ l.invariant.0 _ _ c.loop-left-test.true c.in-ok-before.ensures l.invariant.1 c.if-left-wanted.true,
+      turn_found (option_map segment_of l.found) l.left c.args.wanted l.limit l.rest.now _ l.invariant.0 _ _ c.loop-left-test.true c.in_ok-before.ensures l.invariant.1 c.if-left-wanted.true,
       λ e. omega (arith, c.if-left-wanted.true),
     )

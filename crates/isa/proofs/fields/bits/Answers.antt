@@ -1,4 +1,4 @@
-use Rattle.std.proofs.Common.{arith, rules}
+use Rattle.std.proofs.Common.{rules}
 use Rattle.std.proofs.lemmas.Nat.{one_shl, and_mask, mod_below, pow_pos}
 use Rattle.isa.proofs.fields.bits.Goals as goal
 

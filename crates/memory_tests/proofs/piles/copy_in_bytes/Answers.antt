@@ -6,4 +6,4 @@ use Rattle.memory_tests.proofs.piles.copy_in_bytes.Goals as goal
 
 pub returns : goal.returns
 unfolding loan_of
-returns c = let p = words_plain _ (packed_fits _ (λ k. (c.type-inv.bytes k).fits)) in search rules
+returns c = let p = words_plain _ (packed_fits _ (λ k. (c.type_inv.bytes k).fits)) in search rules

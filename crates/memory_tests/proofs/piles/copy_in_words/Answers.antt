@@ -5,4 +5,4 @@ use Rattle.memory_tests.proofs.piles.copy_in_words.Goals as goal
 
 pub returns : goal.returns
 unfolding loan_of
-returns c = let p = words_plain _ (λ k. (c.type-inv.words k).fits) in search rules
+returns c = let p = words_plain _ (λ k. (c.type_inv.words k).fits) in search rules

@@ -11,7 +11,7 @@ returns-in-None c =
 pub loop-byte-preserved : goal.loop-byte-preserved
 loop-byte-preserved c =
     let is = sym c.digit-in.ensures ∙ c.in-Some.is in (
-      omega (arith, c.with-digit-number.type-inv),
+      omega (arith, c.with-digit-number.type_inv),
       subst (λ (n : ℕ). read_on c.args.base n (drop (c.loop-byte.byte-index + 1) c.args.digits.now) ≡ read_on c.args.base 0 c.args.digits.now) (sym c.with-digit-number.ensures)
           (one_more c.args.base c.loop-byte.number c.in-Some.digit c.loop-byte.byte-index c.args.digits.now (omega (arith, c.requires.low)) c.loop-byte-test.true is ∙ c.loop-byte.invariant.1),
     )

@@ -2,8 +2,8 @@ use Rattle.std.proofs.Common.{arith, rules}
 use Rattle.memory.proofs.Joined.{joined_length, first_word, second_word}
 use Rattle.memory.proofs.pair.PairMemory.read.Goals as goal
 
-pub returns-in-err-admit : goal.returns-in-err-admit
-returns-in-err-admit g c =
+pub returns-in_err-admit : goal.returns-in_err-admit
+returns-in_err-admit g c =
     let p = c.args.self.now in
     let l = joined_length (g.A.Memory.words p.first) (g.B.Memory.words p.second) in
     let f = g.A.Memory.laws.few p.first in

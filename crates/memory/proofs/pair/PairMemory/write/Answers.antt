@@ -3,8 +3,8 @@ use Rattle.std.proofs.lemmas.List.{set_past}
 use Rattle.memory.proofs.Joined.{joined_length, first_set, second_set}
 use Rattle.memory.proofs.pair.PairMemory.write.Goals as goal
 
-pub returns-in-err-admit : goal.returns-in-err-admit
-returns-in-err-admit g c =
+pub returns-in_err-admit : goal.returns-in_err-admit
+returns-in_err-admit g c =
     let p = c.args.self.now in
     let l = joined_length (g.A.Memory.words p.first) (g.B.Memory.words p.second) in
     let f = g.A.Memory.laws.few p.first in

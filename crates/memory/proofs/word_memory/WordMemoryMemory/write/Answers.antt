@@ -2,5 +2,5 @@ use Rattle.std.proofs.Common.{rules}
 use Rattle.std.proofs.lemmas.List.{set_past}
 use Rattle.memory.proofs.word_memory.WordMemoryMemory.write.Goals as goal
 
-pub returns-in-err-admit : goal.returns-in-err-admit
-returns-in-err-admit c = search (rules, set_past)
+pub returns-in_err-admit : goal.returns-in_err-admit
+returns-in_err-admit c = search (rules, set_past)

@@ -1,5 +1,5 @@
 use Rattle.onebus.proofs.Registers.{all_small}
 use Rattle.onebus.proofs.core.Core.clear_registers.Goals as goal
 
-pub invariant-of-self : goal.invariant-of-self
-invariant-of-self c = (c.args.self.now.count, (c.args.self.now.step, (all_small, tt)))
+pub invariant_of-self : goal.invariant_of-self
+invariant_of-self c = (c.args.self.now.count, (c.args.self.now.step, (all_small, tt)))

@@ -2,8 +2,8 @@ use Rattle.std.proofs.Common.{◌^◌, ◌<◌, arith}
 use Rattle.rows.proofs.Kept.{set_small}
 use Rattle.onebus.proofs.core.Core.put.Goals as goal
 
-pub invariant-of-self : goal.invariant-of-self
-invariant-of-self c =
+pub invariant_of-self : goal.invariant_of-self
+invariant_of-self c =
     let s = c.args.self.now in
     let v : c.args.value < 2 ^ 32 = omega arith in
     (s.count, (s.step, (set_small s.regs c.args.i c.args.value (2 ^ 32) s.small v, tt)))

@@ -7,11 +7,11 @@ use Rattle.onebus.specs.Steps.{Writes}
 use Rattle.onebus.proofs.Stepping.{refusal_is, refused_write}
 use Rattle.onebus.proofs.core.Core.write_word.Goals as goal
 
-pub returns-in-err-write : goal.returns-in-err-write
-returns-in-err-write g c =
+pub returns-in_err-write : goal.returns-in_err-write
+returns-in_err-write g c =
     let k = core_of c.args.self.now in
-    let f : MemoryFault = c.in-err-write.field-0.0 in
+    let f : MemoryFault = c.in_err-write.field-0.0 in
     subst (λ (r : Result (Unit {0}) Cause). Writes g.M.Memory c.args.word.0 k c.args.memory.now r c.write.new.self)
-    (sym (refusal_is c.from-residual.result (NoWord f) c.from-residual.ensures.1))
+    (sym (refusal_is c.from_residual.result (NoWord f) c.from_residual.ensures.1))
     (refused_write g.M.Memory c.args.word.0 k c.args.memory.now c.write.new.self _ f (NoWord f)
-    (sym c.has.ensures ∙ c.if-has.true) refl c.in-err-write.ensures)
+    (sym c.has.ensures ∙ c.if-has.true) refl c.in_err-write.ensures)
