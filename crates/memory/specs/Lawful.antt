@@ -1,5 +1,5 @@
 -- Proofs that what each memory means keeps the laws: a reader need not believe anything here. Assumes nothing.
-use Rattle.std.specs.Prelude.{◌≡◌, ℕ, zero, suc, ◌^◌, ◌<◌, ◌≤◌, List, [], ◌∷◌, ◌++◌, map, length, take, nat_lt, slice_index, refl}
+use Rattle.std.specs.Prelude.{ℕ, zero, suc, ◌^◌, ◌<◌, ◌≤◌, List, [], ◌∷◌, ◌++◌, map, length, take, nat_lt, slice_index, refl}
 use Rattle.std.proofs.Common.{arith, length-take}
 use Rattle.std.proofs.lemmas.Bool.{le-ltb, cond-false, cond_both}
 use Rattle.memory.specs.Memory.{cut, wrap, word_list, Laws}

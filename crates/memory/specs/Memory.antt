@@ -1,5 +1,5 @@
 -- What a memory means, and what each of its calls promises. Assumes nothing.
-use Rattle.std.specs.Prelude.{◌≡◌, ℕ, ◌%◌, ◌^◌, ◌<◌, ◌≤◌, cond, List, [], ◌∷◌, map, length, take, drop, set, Ok, Err, Result, nat_lt, slice_index, slice_set}
+use Rattle.std.specs.Prelude.{◌≡◌, ℕ, ◌%◌, ◌^◌, ◌<◌, ◌≤◌, cond, List, [], ◌∷◌, map, length, take, drop, Ok, Err, Result, nat_lt, slice_index, slice_set}
 use Rattle.std.specs.Borrow.{MutBor}
 use Rattle.memory.specs.declared.memory.MemoryFault.{MemoryFault}
 

@@ -1,5 +1,5 @@
 -- How many clocks an instruction takes, at least and at most. Assumes nothing.
-use Rattle.std.proofs.Common.{◌≡◌, ℕ, ◌+◌, ◌<◌, ◌≤◌, Bool, T, leb, length, sym, refl, subst, le_trans, arith, leb→le}
+use Rattle.std.proofs.Common.{ℕ, ◌≤◌, T, leb, length, sym, subst, le_trans, arith, leb→le}
 use Rattle.isa.specs.declared.operation.Transfer.TheVariants.{Load, Store, Address}
 use Rattle.isa.specs.Operations.{Op, decoded_op}
 use Rattle.isa.specs.Operations.Op.{nop, stop, br, brl, unassigned, transfer, binary, immediate, unary, shift}

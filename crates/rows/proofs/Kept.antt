@@ -1,5 +1,5 @@
 -- An instruction of the book keeps every number within 32 bits. Assumes nothing.
-use Rattle.std.proofs.Common.{◌≡◌, ℕ, zero, suc, ◌+◌, ◌-◌, ◌*◌, ◌/◌, ◌%◌, ◌^◌, ◌<◌, Bool, true, false, cond, eqb, ltb, List, [], ◌∷◌, length, get_or, set, pos, negsuc, sym, refl, ap, subst, lt_of_le_of_lt, arith}
+use Rattle.std.proofs.Common.{ℕ, zero, suc, ◌-◌, ◌/◌, ◌%◌, ◌^◌, ◌<◌, Bool, true, false, cond, eqb, ltb, List, [], ◌∷◌, length, get_or, set, pos, negsuc, subst, lt_of_le_of_lt, arith}
 use Rattle.std.proofs.lemmas.Nat.{and_le_l, or_lt}
 use Rattle.isa.specs.declared.operation.Transfer.TheVariants.{Load, Store, Address}
 use Rattle.isa.specs.declared.operation.Binary.{Binary}
@@ -13,7 +13,7 @@ use Rattle.isa.specs.Operations.{Mode, Op, decoded_op, binary_of}
 use Rattle.isa.specs.Operations.Mode.{displaced, relative}
 use Rattle.isa.specs.Operations.Op.{nop, stop, br, brl, unassigned, transfer, binary, immediate, unary, shift}
 use Rattle.isa.specs.Arithmetic.{plus, sign, binary_result, unary_result, shifted_once, shifted}
-use Rattle.isa.specs.Book.{Visible, After, Access, access, register, with_pc, with_register, with_word, address, places, taken, branched, checked, perform, fetched, raised, begun, instruction}
+use Rattle.isa.specs.Book.{Visible, After, Access, access, with_pc, with_register, with_word, address, places, taken, branched, checked, perform, fetched, raised, begun, instruction}
 use Rattle.isa.specs.Book.After.{next, fault}
 use Rattle.isa.specs.Book.Access.{fit, unfit}
 use Rattle.rows.specs.Runs.{Fits}

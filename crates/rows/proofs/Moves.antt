@@ -1,11 +1,11 @@
 -- A step that does not end the instruction does not lead to T 0, under any control store. Assumes nothing.
-use Rattle.std.proofs.Common.{◌≡◌, ℕ, zero, suc, ◌+◌, ◌*◌, ◌<◌, ◌≤◌, Bool, true, false, cond, ltb, List, length, set, sym, refl, ap, ◌∙◌, subst, arith}
+use Rattle.std.proofs.Common.{◌≡◌, ℕ, zero, suc, ◌<◌, Bool, true, false, cond, ltb, List, length, sym, refl, ap, ◌∙◌, subst, arith}
 use Rattle.std.proofs.lemmas.Bool.{ltb-true}
 use Rattle.isa.specs.Book.{Access, access}
 use Rattle.isa.specs.Book.Access.{fit, unfit}
 use Rattle.rows.specs.declared.signal.Signal.TheVariants.{End, Goto6, Stop}
 use Rattle.rows.specs.Signals.{gives}
-use Rattle.rows.specs.Core.{Core, Outcome, up, closed, stored, bus, carried_out, allowed, addressed, touches, conditional, met, assigned, rowless, execute, control_at, micro, and_then, steps}
+use Rattle.rows.specs.Core.{Core, Outcome, up, closed, carried_out, allowed, addressed, touches, conditional, met, assigned, rowless, control_at, micro, and_then, steps}
 use Rattle.rows.specs.Core.Outcome.{more, done, failed}
 use Rattle.rows.specs.Refine.{MovesOn}
 

@@ -1,5 +1,5 @@
 -- Shifts by one place, done n times, are a shift by n places. Assumes nothing.
-use Rattle.std.proofs.Common.{◌≡◌, ℕ, zero, suc, ◌+◌, ◌-◌, ◌*◌, ◌/◌, ◌%◌, ◌^◌, ◌<◌, ◌≤◌, Bool, true, false, cond, eqb, sym, refl, ap, ◌∙◌, subst, mod-lt, mul_assoc, mul_comm, add-mul, add_comm, pow-suc, div-add-mod', div-one, mul_left_comm, one-add, arith, pow_pos, pow_mono, pow-add, shr-shr, eq-eqb, ne_eqb, eqb-true}
+use Rattle.std.proofs.Common.{◌≡◌, ℕ, zero, suc, ◌+◌, ◌-◌, ◌*◌, ◌/◌, ◌%◌, ◌^◌, ◌<◌, ◌≤◌, Bool, true, false, cond, sym, refl, ap, ◌∙◌, mod-lt, mul_assoc, mul_comm, add-mul, add_comm, pow-suc, div-add-mod', div-one, mul_left_comm, one-add, arith, pow_pos, pow_mono, pow-add, shr-shr, eq-eqb, ne_eqb, eqb-true}
 use native.Mathlib.Nat.{add-mul-div_right, add-mul-mod_self_right}
 use lib.Arith.{digits_div, digits_mod}
 use borrow.Author.Tests.{eqb-false}

@@ -1,17 +1,17 @@
 -- Under our control store the core does the book's instruction. Assumes nothing.
-use Rattle.std.proofs.Common.{◌≡◌, ℕ, zero, suc, ◌+◌, ◌^◌, ◌<◌, Bool, true, false, cond, eqb, ltb, List, length, get_or, sym, refl, ap, ◌∙◌, subst, add-zero, arith, lit<}
+use Rattle.std.proofs.Common.{◌≡◌, ℕ, suc, ◌+◌, ◌^◌, ◌<◌, Bool, true, false, cond, eqb, ltb, List, length, get_or, sym, refl, ap, ◌∙◌, subst, add-zero, arith, lit<}
 use Rattle.std.proofs.lemmas.Bool.{ne_eqb, le-ltb}
 use Rattle.isa.specs.declared.operation.Transfer.TheVariants.{Load, Store, Address}
 use Rattle.isa.specs.Operations.{Op, decoded_op}
 use Rattle.isa.specs.Operations.Op.{nop, stop, br, brl, unassigned, transfer, binary, immediate, unary, shift}
 use Rattle.isa.specs.Arithmetic.{plus}
-use Rattle.isa.specs.Book.{Visible, After, Access, access, fetched, raised, begun, instruction}
+use Rattle.isa.specs.Book.{Visible, After, Access, access, fetched, begun, instruction}
 use Rattle.isa.specs.Book.After.{next, fault}
 use Rattle.isa.specs.Book.Access.{fit, unfit}
 use Rattle.isa.specs.Clocks.{op_accesses, begun_accesses, accesses, begun_clocks, clocks}
 use Rattle.rows.specs.Rows.{table}
-use Rattle.rows.specs.Core.{Core, Outcome, at_step, refused, allowed, micro, waits, steps}
-use Rattle.rows.specs.Core.Outcome.{more, done, failed}
+use Rattle.rows.specs.Core.{Core, Outcome, at_step, allowed, micro, waits, steps}
+use Rattle.rows.specs.Core.Outcome.{more, failed}
 use Rattle.rows.specs.After.{Hidden, visible, hidden_after, joined, after_instruction}
 use Rattle.rows.specs.Refine.{Ready, Amid, Within, Same, Refined, Refines}
 use Rattle.rows.proofs.Runs.{Runs, own_wait, wait_at, waits_are, clock, row_runs, runs_steps, runs_within}

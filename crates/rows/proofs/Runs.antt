@@ -1,17 +1,17 @@
 -- The steps of an instruction over one row, and what they say of the core under our control store. Assumes nothing.
-use Rattle.std.proofs.Common.{◌≡◌, ℕ, zero, suc, ◌+◌, ◌*◌, ◌<◌, Bool, true, false, cond, not, ◌&&◌, ◌||◌, T, eqb, ltb, List, length, get_or, sym, refl, ap, ◌∙◌, subst, le_of_suc-le-suc, not-suc-le-zero, add-zero, add-suc, zero-add, arith, ltb→lt}
+use Rattle.std.proofs.Common.{◌≡◌, ℕ, zero, suc, ◌+◌, ◌*◌, ◌<◌, Bool, true, false, cond, not, ◌&&◌, ◌||◌, T, eqb, ltb, List, length, get_or, sym, refl, ap, ◌∙◌, subst, le_of_suc-le-suc, not-suc-le-zero, zero-add, arith, ltb→lt}
 use Rattle.std.proofs.lemmas.Bool.{false≢true, ne_eqb, lt-ltb}
 use Rattle.isa.specs.declared.operation.Transfer.TheVariants.{Load, Store, Address}
 use Rattle.isa.specs.Fields.{op_of}
 use Rattle.isa.specs.Operations.{Op, operation, decoded_op}
 use Rattle.isa.specs.Operations.Op.{nop, stop, br, brl, unassigned, transfer, binary, immediate, unary, shift}
 use Rattle.isa.specs.Book.{Visible, Access, access, fetched}
-use Rattle.isa.specs.Book.Access.{fit, unfit}
+use Rattle.isa.specs.Book.Access.{fit}
 use Rattle.isa.specs.Clocks.{op_accesses, begun_accesses, accesses}
 use Rattle.rows.specs.declared.signal.Signal.TheVariants.{Wait, NIsZero, NIsNotZero}
 use Rattle.rows.specs.Signals.{gives}
 use Rattle.rows.specs.Rows.{control_word, table}
-use Rattle.rows.specs.Core.{Core, Outcome, met, execute, control_at, micro, waits, and_then, steps}
+use Rattle.rows.specs.Core.{Core, Outcome, execute, control_at, micro, waits, and_then, steps}
 use Rattle.rows.specs.Core.Outcome.{more, done, failed}
 use Rattle.rows.specs.Refine.{Amid, Within}
 use Rattle.rows.proofs.Table.{looked_up, all_codes, some_code}

@@ -1,19 +1,19 @@
 -- The shifts: T6 is done again until n is 0. Assumes nothing.
-use Rattle.std.proofs.Common.{◌≡◌, ℕ, zero, suc, ◌+◌, ◌-◌, ◌%◌, ◌^◌, ◌<◌, Bool, true, false, cond, not, eqb, ltb, List, [], ◌∷◌, get_or, set, pos, negsuc, sym, refl, ap, ◌∙◌, subst, arith}
+use Rattle.std.proofs.Common.{◌≡◌, ℕ, zero, suc, ◌+◌, ◌-◌, ◌%◌, ◌^◌, ◌<◌, Bool, true, false, cond, not, eqb, ltb, List, [], ◌∷◌, get_or, pos, negsuc, refl, ap, ◌∙◌, arith}
 use lib.Dec.{eqb-suc-zero}
 use Rattle.isa.specs.declared.operation.Shift.{Shift}
 use Rattle.isa.specs.declared.operation.Shift.TheVariants as by_places
 use Rattle.isa.specs.Fields.{ra_of, rb_of, rc_of, c1_of, count_of, word_of}
 use Rattle.isa.specs.Operations.Op.{shift}
-use Rattle.isa.specs.Arithmetic.{shifted_once, shifted}
+use Rattle.isa.specs.Arithmetic.{shifted_once}
 use Rattle.isa.specs.Book.{Visible, register, places, perform, with_register}
 use Rattle.isa.specs.Clocks.{op_clocks}
 use Rattle.rows.specs.declared.signal.Signal.TheVariants.{Grc, ROut, COut, CIn, Ld, Decr, Goto6, NIsZero, NIsNotZero}
 use Rattle.rows.specs.Signals.{encode}
-use Rattle.rows.specs.Rows.{shift_signal, control_word}
-use Rattle.rows.specs.Core.{Core, Outcome, up, at_step, conditional, execute}
+use Rattle.rows.specs.Rows.{shift_signal}
+use Rattle.rows.specs.Core.{Core, Outcome, up, conditional, execute}
 use Rattle.rows.specs.Core.Outcome.{more, done}
-use Rattle.rows.specs.After.{visible, hidden_by, counted_out, core_of, joined}
+use Rattle.rows.specs.After.{visible, hidden_by, counted_out, core_of}
 use Rattle.rows.proofs.Runs.{Row}
 use Rattle.rows.proofs.Runs.Row.{end, then}
 use Rattle.rows.proofs.Alu.{hidden_of, Does}

@@ -1,12 +1,11 @@
 -- The operations that make an address: loads, stores and addresses. Assumes nothing.
-use Rattle.std.proofs.Common.{◌≡◌, ℕ, suc, ◌+◌, ◌-◌, ◌/◌, ◌%◌, ◌^◌, ◌<◌, Bool, true, false, cond, eqb, ltb, List, [], ◌∷◌, length, get_or, set, pos, negsuc, sym, refl, ap, ◌∙◌, subst, arith}
+use Rattle.std.proofs.Common.{◌≡◌, ℕ, suc, ◌-◌, ◌/◌, ◌%◌, ◌^◌, Bool, true, false, cond, eqb, ltb, List, [], ◌∷◌, length, get_or, set, pos, negsuc, sym, refl, ap, ◌∙◌, arith}
 use Rattle.isa.specs.declared.operation.Transfer.TheVariants.{Load, Store, Address}
-use Rattle.isa.specs.declared.operation.Binary.TheVariants as on_two
 use Rattle.isa.specs.Fields.{ra_of, rb_of, c1_of, c2_of, word_of}
 use Rattle.isa.specs.Operations.{Mode, Op}
 use Rattle.isa.specs.Operations.Mode.{displaced, relative}
 use Rattle.isa.specs.Operations.Op.{transfer}
-use Rattle.isa.specs.Arithmetic.{plus, binary_result}
+use Rattle.isa.specs.Arithmetic.{plus}
 use Rattle.isa.specs.Book.{Visible, Access, access, register, address, checked, perform, word_at, with_register, with_word}
 use Rattle.isa.specs.Book.Access.{fit, unfit}
 use Rattle.isa.specs.Clocks.{load_clocks, op_clocks}
@@ -14,8 +13,8 @@ use Rattle.rows.specs.declared.signal.Signal.TheVariants.{Read, Write, Wait, End
 use Rattle.rows.specs.Signals.{encode}
 use Rattle.rows.specs.Rows.{base, offset, control_word}
 use Rattle.rows.specs.Core.{Core, Outcome, up, at_step, allowed, execute}
-use Rattle.rows.specs.Core.Outcome.{more, done, failed}
-use Rattle.rows.specs.After.{Hidden, visible, based, loaded, transferred, hidden_by, joined}
+use Rattle.rows.specs.Core.Outcome.{more, done}
+use Rattle.rows.specs.After.{visible, based, loaded, transferred, hidden_by, joined}
 use Rattle.rows.proofs.Runs.{Row, At}
 use Rattle.rows.proofs.Runs.Row.{end, then}
 use Rattle.rows.proofs.Alu.{hidden_of, Does}

@@ -3,7 +3,7 @@ use Rattle.std.proofs.Common.{◌≡◌, ℕ, zero, suc, ◌+◌, Bool, true, fa
 use Rattle.isa.specs.Book.{Visible, After, instruction}
 use Rattle.isa.specs.Book.After.{next, fault}
 use Rattle.rows.specs.Rows.{table}
-use Rattle.rows.specs.Core.{Core, Outcome, micro, and_then}
+use Rattle.rows.specs.Core.{Core, Outcome, and_then}
 use Rattle.rows.specs.Core.Outcome.{more, done, failed}
 use Rattle.rows.specs.After.{visible, after_instruction}
 use Rattle.rows.specs.Refine.{Same}

@@ -10,7 +10,7 @@ use Rattle.isa.specs.Book.{Visible, After, Access, access, register, word_at, ad
 use Rattle.isa.specs.Book.After.{next, fault}
 use Rattle.isa.specs.Book.Access.{fit, unfit}
 use Rattle.rows.specs.Core.{Core, Outcome}
-use Rattle.rows.specs.Core.Outcome.{more, done, failed}
+use Rattle.rows.specs.Core.Outcome.{done, failed}
 
 -- the core's registers that no program sees, but for the step
 pub record Hidden : Type 0 where

@@ -1,7 +1,7 @@
 -- Rules that every step of our control store keeps. Assumes nothing.
-use Rattle.std.specs.Prelude.{◌≡◌, ℕ, suc, ◌+◌, ◌*◌, ◌<◌, Bool, true, false, cond, not, ◌&&◌, ◌||◌, List, [], ◌∷◌, ◌==◌, nat_lt, slice_index}
+use Rattle.std.specs.Prelude.{◌≡◌, ℕ, ◌+◌, ◌*◌, ◌<◌, Bool, true, cond, not, ◌&&◌, ◌||◌, List, [], ◌∷◌, ◌==◌, nat_lt, slice_index}
 use Rattle.rows.specs.declared.signal.Signal.{Signal}
-use Rattle.rows.specs.declared.signal.Signal.TheVariants.{PcOut, MdOut, COut, ROut, BaOut, C1Out, C2Out, RIn, Gra, Grb, Grc, Add, Sub, And, Or, Neg, Not, CIsB, Inc4, Shr, Shra, Shl, Shc, Read, Write, Wait, Decr, Goto6, Stop, End, NIsZero, NIsNotZero}
+use Rattle.rows.specs.declared.signal.Signal.TheVariants.{PcOut, MdOut, COut, ROut, BaOut, C1Out, C2Out, Gra, Grb, Grc, Add, Sub, And, Or, Neg, Not, CIsB, Inc4, Shr, Shra, Shl, Shc, Read, Write, Wait, Decr, Goto6, End, NIsZero, NIsNotZero}
 use Rattle.rows.specs.Signals.{gives}
 use Rattle.rows.specs.Rows.{table}
 

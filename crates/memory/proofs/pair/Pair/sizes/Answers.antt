@@ -1,4 +1,4 @@
-use Rattle.std.proofs.Common.{arith, rules}
+use Rattle.std.proofs.Common.{rules}
 use Rattle.memory.proofs.Joined.{joined_length}
 use Rattle.memory.proofs.pair.Pair.sizes.Goals as goal
 
