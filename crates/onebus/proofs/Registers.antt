@@ -1,5 +1,5 @@
 -- Registers that are all 0 fit 32 bits. Assumes nothing.
-use Rattle.std.proofs.Common.{ℕ, zero, suc, ◌^◌, ◌<◌, get_or, replicate, arith, lit<}
+use Rattle.std.proofs.Common.{ℕ, zero, suc, ◌^◌, ◌<◌, get_or, replicate, lit<}
 
 zeros_small : (n i : ℕ) → get_or (replicate n 0) i 0 < 2 ^ 32
 zeros_small zero i = lit< tt

@@ -1,12 +1,11 @@
 -- A step of the code is the step that is defined, over any memory. Assumes nothing.
-use Rattle.std.proofs.Common.{◌≡◌, ℕ, ◌/◌, ◌%◌, ◌≤◌, Bool, true, false, cond, ◌&&◌, eqb, ltb, List, length, set, IsErrAnd, Ok, Err, Result, sym, refl, ap, ◌∙◌, subst}
+use Rattle.std.proofs.Common.{◌≡◌, ℕ, ◌/◌, ◌≤◌, Bool, true, false, cond, ◌&&◌, ltb, List, length, set, IsErrAnd, Ok, Err, Result, sym, refl, ap, ◌∙◌, subst}
 use Rattle.std.proofs.lemmas.List.{set_past}
 use Rattle.std.proofs.lemmas.Result.{err_from_is_err_and}
-use Rattle.std.proofs.lemmas.Bool.{eq-eqb, ltb-false}
-use Rattle.isa.specs.Book as book
+use Rattle.std.proofs.lemmas.Bool.{ltb-false}
 use Rattle.isa.specs.Book.{Access, access}
 use Rattle.isa.specs.Book.Access.{fit, unfit}
-use Rattle.rows.specs.declared.signal.Signal.TheVariants.{Read, Write, Stop, End}
+use Rattle.rows.specs.declared.signal.Signal.TheVariants.{Write, Stop, End}
 use Rattle.rows.specs.Signals.{gives}
 use Rattle.rows.specs.Core as model
 use Rattle.rows.specs.Core.{Outcome, bus, stored, at_step, met, touches, held, written, closed, carried_out, allowed, addressed, conditional, assigned, rowless, execute}
@@ -20,7 +19,7 @@ use Rattle.onebus.specs.declared.fault.CoreFault.{CoreFault}
 use Rattle.onebus.specs.declared.progress.Progress.{Progress}
 use Rattle.onebus.specs.declared.progress.Progress.TheVariants.{Within, Finished}
 use Rattle.onebus.specs.Faults.{cause_of}
-use Rattle.onebus.specs.Steps.{core_after, words_after, answer_of, progress_of, fits, uses_word, Stepped, Reads, Writes, write_answer, access_of, access_answer, Accesses}
+use Rattle.onebus.specs.Steps.{core_after, words_after, answer_of, progress_of, fits, uses_word, Stepped, Writes, access_of, access_answer, Accesses}
 
 -- an answer that is a refusal is none that is not
 abbrev Refusal : {X : Type 0} → {E : Type 0} → Result X E → Type 0

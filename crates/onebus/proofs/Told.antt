@@ -1,5 +1,5 @@
 -- What an answer of a step says of the step that is defined. Assumes nothing.
-use Rattle.std.proofs.Common.{◌≡◌, ℕ, Bool, List, Ok, Err, Result, sym, refl, ap, ◌∙◌, subst}
+use Rattle.std.proofs.Common.{◌≡◌, ℕ, List, Ok, Err, Result, sym, refl, ap, ◌∙◌, subst}
 use Rattle.isa.specs.Book as book
 use Rattle.rows.specs.Core as model
 use Rattle.rows.specs.Core.{Outcome, execute}

@@ -1,5 +1,5 @@
 -- What a step of the core promises over any memory. Assumes nothing.
-use Rattle.std.specs.Prelude.{◌≡◌, ℕ, ◌/◌, ◌%◌, Bool, true, false, cond, ◌&&◌, List, length, Ok, Err, Result, nat_lt, slice_index, slice_set}
+use Rattle.std.specs.Prelude.{◌≡◌, ℕ, ◌/◌, Bool, true, false, cond, ◌&&◌, List, length, Ok, Err, Result, nat_lt, slice_index, slice_set}
 use Rattle.isa.specs.Book.{Access, access}
 use Rattle.isa.specs.Book.Access.{fit, unfit}
 use Rattle.rows.specs.Core as model

@@ -2,4 +2,8 @@ use Rattle.onebus.proofs.Registers.{all_small}
 use Rattle.onebus.proofs.core.Core.clear_registers.Goals as goal
 
 pub invariant_of-self : goal.invariant_of-self
-invariant_of-self c = (c.args.self.now.count, (c.args.self.now.step, (all_small, tt)))
+invariant_of-self c = record {
+  count = c.args.self.now.count;
+  step = c.args.self.now.step;
+  small = all_small;
+}

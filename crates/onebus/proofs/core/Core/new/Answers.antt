@@ -3,4 +3,4 @@ use Rattle.onebus.proofs.Registers.{all_small}
 use Rattle.onebus.proofs.core.Core.new.Goals as goal
 
 pub invariant_of-result : goal.invariant_of-result
-invariant_of-result c = (lit< tt, (lit< tt, (all_small, tt)))
+invariant_of-result c = record { count = lit< tt; step = lit< tt; small = all_small }

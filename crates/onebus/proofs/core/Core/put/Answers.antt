@@ -6,4 +6,4 @@ pub invariant_of-self : goal.invariant_of-self
 invariant_of-self c =
     let s = c.args.self.now in
     let v : c.args.value < 2 ^ 32 = omega arith in
-    (s.count, (s.step, (set_small s.regs c.args.i c.args.value (2 ^ 32) s.small v, tt)))
+    record { count = s.count; step = s.step; small = set_small s.regs c.args.i c.args.value (2 ^ 32) s.small v }

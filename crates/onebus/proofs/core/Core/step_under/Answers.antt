@@ -5,12 +5,12 @@ use Rattle.onebus.proofs.core.Core.step_under.Goals as goal
 
 pub returns-in-Ok : goal.returns-in-Ok
 returns-in-Ok g c =
-    stepped g.M.Memory c.args.word.0 (core_of c.args.self.now) (core_of c.carry-out.new.self) c.args.memory.now c.access.new.memory
-    (sym c.is-rowless.ensures ∙ c.if-is-rowless.false) (sym c.allows.ensures ∙ c.if-not-allows.false)
-    c.in-Ok.held c.carry-out.result c.in-Ok.ensures c.carry-out.ensures.core c.carry-out.ensures.answer
+    stepped g.M.Memory c.args.word.0 (core_of c.args.self.now) (core_of c.carry_out.new.self) c.args.memory.now c.access.new.memory
+    (sym c.is_rowless.ensures ∙ c.if-is_rowless.false) (sym c.allows.ensures ∙ c.if-not-allows.false)
+    c.in-Ok.held c.carry_out.result c.in-Ok.ensures c.carry_out.ensures.core c.carry_out.ensures.answer
 
 pub returns-in-Err : goal.returns-in-Err
 returns-in-Err g c =
     stepped_not g.M.Memory c.args.word.0 (core_of c.args.self.now) (core_of c.fail-in-Err.new.self) c.args.memory.now c.access.new.memory
-    (sym c.is-rowless.ensures ∙ c.if-is-rowless.false) (sym c.allows.ensures ∙ c.if-not-allows.false)
+    (sym c.is_rowless.ensures ∙ c.if-is_rowless.false) (sym c.allows.ensures ∙ c.if-not-allows.false)
     c.in-Err.cause c.fail-in-Err.result c.in-Err.ensures c.fail-in-Err.ensures.core c.fail-in-Err.ensures.answer
