@@ -1,19 +1,19 @@
 -- Reading accepts exactly what is written. Assumes nothing.
-use Rattle.std.proofs.Common.{◌≡◌, ℕ, zero, suc, ◌+◌, ◌-◌, ◌*◌, ◌^◌, ◌<◌, ◌≤◌, Bool, true, false, cond, not, ◌||◌, eqb, ltb, ◌⊎◌, List, [], ◌∷◌, ◌++◌, length, get_or, take, drop, Ok, Err, Result, sym, refl, ap, ◌∙◌, subst, inl, inr, add-one, arith}
+use Rattle.std.proofs.Common.{◌≡◌, ℕ, zero, suc, ◌+◌, ◌-◌, ◌^◌, ◌<◌, ◌≤◌, Bool, true, false, cond, not, ◌||◌, eqb, ltb, List, [], ◌∷◌, ◌++◌, length, get_or, take, drop, Ok, Err, Result, sym, refl, ap, ◌∙◌, subst, inl, inr, arith}
 use Rattle.std.proofs.ByRecursion.{All-take, All-drop, All-from_get_or}
 use Rattle.std.proofs.lemmas.List.{append_assoc, append-nil, length-append, length-take, length-drop, length_push, take_at, drop_at, drop-drop, drop_all, take-append-drop, nil_from_length}
-use Rattle.std.proofs.lemmas.Bool.{eqb-true, eqb-false, eq-eqb, ne_eqb, or_parts, or_from, le-ltb, ltb-false, cond-true, cond-false, cases_Bool, not_from_true, not-false}
+use Rattle.std.proofs.lemmas.Bool.{eqb-true, eq-eqb, or_parts, or_from, le-ltb, ltb-false, cond-true, cond-false, cases_Bool, not_from_true, not-false}
 use Rattle.std.specs.List.{flat_map, AllByRecursion as All}
 use Rattle.image.specs.declared.refusal.ImageRefusal.{ImageRefusal}
-use Rattle.image.specs.declared.refusal.ImageRefusal.TheVariants.{Length, Mark, Trailer, LeftOver}
+use Rattle.image.specs.declared.refusal.ImageRefusal.TheVariants.{LeftOver}
 use Rattle.image.specs.Accepting.{EndsInImage, AcceptsExactly}
 use Rattle.image.specs.Numbers.{number_at, number_bytes}
-use Rattle.image.specs.Reading.{mark, mark_of, number_of_segments, back_of, body_of, Split, split_off, last_segment, none_read, before_it, followed, walk, reading}
+use Rattle.image.specs.Reading.{mark, mark_of, number_of_segments, back_of, body_of, split_off, none_read, before_it, followed, walk, reading}
 use Rattle.image.specs.Segments.{Segment, end_of, Filled, Ascending, InOrder}
 use Rattle.image.specs.Writing.{segment_bytes, written}
 use Rattle.image.proofs.Numbers.{number_at_append, number_back, number_here}
 use Rattle.image.proofs.Segments.{joined_push, ascending_push, ascending_last, split_back, whole_back, taken_filled, taken_fits, taken_written}
-use Rattle.image.proofs.Splits.{apart, Whole, split_whole, taken_whole}
+use Rattle.image.proofs.Splits.{apart, split_whole, taken_whole}
 use Rattle.image.proofs.Walks.{step, walk_length}
 
 -- what a walk accepts is written of segments in order

@@ -1,5 +1,5 @@
 -- Loading sets exactly the words that are listed. Assumes nothing.
-use Rattle.std.proofs.Common.{◌≡◌, ℕ, zero, suc, ◌+◌, ◌-◌, ◌^◌, ◌<◌, ◌≤◌, ◌⊎◌, List, [], ◌∷◌, ◌++◌, length, get_or, take, set, Some, None, Ok, Err, sym, refl, ap, ◌∙◌, subst, inl, inr, arith}
+use Rattle.std.proofs.Common.{◌≡◌, ℕ, zero, suc, ◌+◌, ◌-◌, ◌^◌, ◌<◌, ◌≤◌, List, [], ◌∷◌, ◌++◌, length, get_or, take, set, Some, None, Ok, sym, refl, ap, ◌∙◌, subst, inl, inr, arith}
 use Rattle.std.proofs.ByRecursion.{All-set}
 use Rattle.std.proofs.lemmas.List.{length-set, get_or-set_same, get_or-set_other, take_more, take_all, length-take-le}
 use Rattle.std.proofs.lemmas.Option.{slice_get_past as nth_past, slice_get-get_or}
@@ -8,7 +8,7 @@ use Rattle.std.specs.List.{AllByRecursion as All, slice_get}
 use Rattle.memory.specs.Memory.{Loan}
 use Rattle.image.specs.Loading.{stored, loaded, Listed, SetsWhatIsListed, verdict, words_with, Loads}
 use Rattle.image.specs.Reading.{reading}
-use Rattle.image.specs.Segments.{Segment, end_of, Filled, Ascending, InOrder}
+use Rattle.image.specs.Segments.{Segment, end_of, Ascending, InOrder}
 
 pub length_stored : (words : List ℕ) (n : ℕ) (vs : List ℕ) → length (stored words n vs) ≡ length words
 length_stored words n [] = refl

@@ -1,11 +1,11 @@
 -- Segments at the end of bytes: what is written is taken off again, and what is taken off was written. Assumes nothing.
-use Rattle.std.proofs.Common.{◌≡◌, ℕ, zero, suc, ◌+◌, ◌-◌, ◌*◌, ◌/◌, ◌%◌, ◌^◌, ◌<◌, ◌≤◌, ◌⊎◌, List, [], ◌∷◌, ◌++◌, length, take, drop, sym, refl, ap, ◌∙◌, subst, inl, inr, arith}
+use Rattle.std.proofs.Common.{◌≡◌, ℕ, ◌+◌, ◌-◌, ◌*◌, ◌^◌, ◌<◌, ◌≤◌, List, [], ◌∷◌, ◌++◌, length, take, drop, sym, refl, ap, ◌∙◌, subst, arith}
 use Rattle.std.proofs.lemmas.List.{append_assoc, append-nil, length-append, length-take, length-drop, take_at, drop_at, drop-drop, drop_all, take-append-drop}
 use Rattle.std.proofs.ByRecursion.{All-take, All-drop}
 use Rattle.std.specs.List.{flat_map, AllByRecursion as All}
 use Rattle.image.specs.Numbers.{number_at, words_of, number_bytes}
 use Rattle.image.specs.Segments.{Segment, end_of, Filled, Ascending}
-use Rattle.image.specs.Reading.{first_of, count_of, before_of, Split, split_off}
+use Rattle.image.specs.Reading.{first_of, count_of, before_of, split_off}
 use Rattle.image.specs.Writing.{segment_bytes}
 use Rattle.image.proofs.Numbers.{number_at_append, number_back, words_back, words_below, written_words, length_words, length_written, number_here}
 use Rattle.image.proofs.Splits.{Whole}

@@ -1,8 +1,7 @@
 -- The segment at the end of bytes: when it is accepted. Assumes nothing.
-use Rattle.std.proofs.Common.{◌≡◌, ℕ, ◌+◌, ◌-◌, ◌*◌, ◌<◌, ◌≤◌, true, false, cond, eqb, ltb, List, length, take, drop, Ok, Err, Result, sym, refl, ap, ◌∙◌, subst, inl, inr, arith}
+use Rattle.std.proofs.Common.{◌≡◌, ℕ, ◌+◌, ◌-◌, ◌*◌, ◌≤◌, eqb, ltb, List, length, take, drop, Ok, Err, Result, sym, ap, ◌∙◌, subst, inl, inr, arith}
 use Rattle.std.proofs.lemmas.Bool.{le-ltb, lt-ltb, ne_eqb, eq-eqb, cond-true, cond-false, cases_lt, cases_eq}
 use Rattle.image.specs.declared.refusal.ImageRefusal.{ImageRefusal}
-use Rattle.image.specs.declared.refusal.ImageRefusal.TheVariants.{Cut, Empty, Beyond, Overlap}
 use Rattle.image.specs.Numbers.{words_of}
 use Rattle.image.specs.Views.{Ends}
 use Rattle.image.specs.Reading.{first_of, count_of, before_of, Split, split_off, last_segment}

@@ -5,8 +5,8 @@ use Rattle.image.proofs.Walks.{accepted_most}
 use Rattle.image.proofs.loading.set_segments.Goals as goal
 use Rattle.image.proofs.loading.set_segments.Goals.{in-Some, in_default}
 
-pub set-words-requires : goal.set-words-requires
-set-words-requires g c =
+pub set_words-requires : goal.set_words-requires
+set_words-requires g c =
     fits_now _ _ (segments_of c.args.image.now) c.loop-i.i (segment_of c.in-Some.part) c.loop-i.invariant.0 c.requires c.in-Some.ensures
 
 pub loop-i-preserved : goal.loop-i-preserved
@@ -15,8 +15,8 @@ loop-i-preserved g c =
     let segments = segments_of c.args.image.now in
     elim c.match-segment.branch [
       | in-Some w ↦ (
-        loaded_more _ _ _ segments c.loop-i.i (segment_of w.in-Some.part) c.loop-i.invariant.0 w.in-Some.ensures (ap m.words w.memory-is ∙ w.set-words.ensures.words),
-        ap m.frame w.memory-is ∙ w.set-words.ensures.frame ∙ c.loop-i.invariant.1,
+        loaded_more _ _ _ segments c.loop-i.i (segment_of w.in-Some.part) c.loop-i.invariant.0 w.in-Some.ensures (ap m.words w.memory-is ∙ w.set_words.ensures.words),
+        ap m.frame w.memory-is ∙ w.set_words.ensures.frame ∙ c.loop-i.invariant.1,
       )
       | in_default w ↦ (
         loaded_none _ _ segments c.loop-i.i (ap m.words w.memory-is ∙ c.loop-i.invariant.0) w.in_default.ensures,

@@ -11,8 +11,8 @@ loop-word-preserved g c =
     let vs = words_of c.args.part.now.words.now in
     let found = c.in-Some.ensures in (
       omega (arith, found_below vs c.loop-word.k _ found),
-      stored_more _ _ _ vs c.args.part.now.first c.loop-word.k _ c.loop-word.invariant.1 found c.set-word.ensures.words,
-      c.set-word.ensures.frame ∙ c.loop-word.invariant.2,
+      stored_more _ _ _ vs c.args.part.now.first c.loop-word.k _ c.loop-word.invariant.1 found c.set_word.ensures.words,
+      c.set_word.ensures.frame ∙ c.loop-word.invariant.2,
     )
 
 pub returns : goal.returns

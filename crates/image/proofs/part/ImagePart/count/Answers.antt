@@ -3,4 +3,4 @@ use Rattle.image.proofs.Numbers.{length_words}
 use Rattle.image.proofs.part.ImagePart.count.Goals as goal
 
 pub returns : goal.returns
-returns c = c.word-count.ensures ∙ sym (length_words c.args.self.now.words.now)
+returns c = c.word_count.ensures ∙ sym (length_words c.args.self.now.words.now)
