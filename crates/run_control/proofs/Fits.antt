@@ -1,8 +1,8 @@
 -- What an instruction keeps: numbers of 32 bits, and where it faults the registers and the words. Assumes nothing.
-use Rattle.std.proofs.Common.{◌≡◌, ℕ, ◌/◌, ◌^◌, ◌<◌, List, length, set, sym, refl, subst}
+use Rattle.std.proofs.Common.{◌≡◌, ℕ, ◌^◌, ◌<◌, List, length, set, refl}
 use Rattle.isa.specs.Operations.{Op, decoded_op}
 use Rattle.isa.specs.Operations.Op.{nop, stop, br, brl, unassigned, transfer, binary, immediate, unary, shift}
-use Rattle.isa.specs.Book.{Visible, After, Access, access, with_pc, with_register, with_word, checked, perform, fetched, raised, begun, instruction}
+use Rattle.isa.specs.Book.{Visible, After, Access, access, with_pc, with_register, checked, perform, fetched, raised, begun, instruction}
 use Rattle.isa.specs.Book.After.{next, fault}
 use Rattle.isa.specs.Book.Access.{fit, unfit}
 use Rattle.isa.specs.declared.operation.Transfer.TheVariants.{Load, Store, Address}

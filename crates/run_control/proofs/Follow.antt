@@ -1,29 +1,28 @@
 -- Every list of calls keeps the machine and the book together. Assumes nothing.
-use Rattle.std.proofs.Common.{◌≡◌, ℕ, zero, suc, ◌+◌, ◌-◌, ◌*◌, ◌%◌, ◌^◌, ◌<◌, ◌≤◌, Bool, true, false, cond, eqb, ltb, List, [], ◌∷◌, ◌++◌, length, set, replicate, Some, None, Ok, Err, Option, Result, sym, refl, ap, ◌∙◌, subst, add-one, arith, Bor}
+use Rattle.std.proofs.Common.{◌≡◌, ℕ, zero, suc, ◌+◌, ◌*◌, ◌<◌, ◌≤◌, Bool, true, false, cond, eqb, ltb, List, [], ◌∷◌, length, set, replicate, Some, None, Ok, Err, Option, Result, sym, refl, ap, ◌∙◌, subst, add-one, arith, Bor}
 use Rattle.std.proofs.lemmas.Bool.{true≢false, eqb-false}
-use Rattle.isa.specs.Book.{Visible, with_pc, with_register, with_word}
+use Rattle.isa.specs.Book.{Visible, with_pc, with_register}
 use Rattle.memory.specs.Memory.{fault_of}
 use Rattle.onebus.specs.declared.fault.CoreFault.{CoreFault}
 use Rattle.image.specs.declared.refusal.ImageRefusal.{ImageRefusal}
 use Rattle.image.specs.Loading.{load_of, words_loaded}
 use Rattle.run_control.specs.declared.faults.MachineFault.{MachineFault}
 use Rattle.run_control.specs.declared.refusals.Refusal.{Refusal}
-use Rattle.run_control.specs.declared.refusals.Refusal.TheVariants.{Running, FaultMark, Stopped, NoRegister, NoWord, ClockCount, ClocksFull, Image}
+use Rattle.run_control.specs.declared.refusals.Refusal.TheVariants.{Running, FaultMark, Stopped, NoRegister, NoWord, ClockCount, ClocksFull}
 use Rattle.run_control.specs.declared.calls.Call.{Call}
 use Rattle.run_control.specs.declared.calls.Call.TheVariants.{Start, Resume, Reset, SetRegister, SetWord, Load, Clock}
 use Rattle.run_control.specs.declared.calls.Answer.{Answer}
-use Rattle.run_control.specs.declared.calls.Answer.TheVariants.{Done, Refused, Spent, Faulted}
 use Rattle.run_control.specs.declared.calls.Turn.{Turn}
 use Rattle.rows.specs.Runs.{Fits}
-use Rattle.run_control.specs.Core.{Core, CoreFacts, Outcome, Small, seen, steps, and_then, zeros}
+use Rattle.run_control.specs.Core.{Core, CoreFacts, Outcome, Small, seen, zeros}
 use Rattle.run_control.specs.Core.Outcome.{more, done, failed}
-use Rattle.run_control.specs.State.{State, Delays, Going, begin, turn, run_on, tick, clocked, told, told_of, ends, fault_in, answer_with, answer_of, pause, stepped, later_delays, after_wait, after_reset, after_fault}
-use Rattle.run_control.specs.Calls.{word_value, image_answer, image_state, start_answer, start_state, resume_answer, resume_state, reset_answer, reset_state, register_answer, register_state, word_answer, word_state, load_answer, load_state, clock_refusal, counted, set_up, started, resumed, with_reset, with_core, with_words, Spends, Clocks, ClocksBy}
-use Rattle.run_control.specs.Feeding.{Fed, Fault, new_book, started_book, resumed_book, waiting_book, reset_book, seeing, image_seen, taken, instruct, instructs, feed, fed, stands_next, standing, fault_told}
-use Rattle.run_control.specs.Whole.{plain, spent_or_fault, clock_told, Bounded, Agrees, Does, Leads, Follows, EveryCoreFollows}
+use Rattle.run_control.specs.State.{State, Delays, Going, begin, turn, run_on, tick, clocked, told, told_of, ends, fault_in, answer_with, answer_of, pause, stepped, later_delays, after_wait, after_reset}
+use Rattle.run_control.specs.Calls.{word_value, image_answer, image_state, start_answer, start_state, resume_answer, resume_state, reset_answer, reset_state, register_answer, register_state, word_answer, word_state, load_answer, load_state, clock_refusal, counted, set_up, started, resumed, with_reset, with_core, with_words, Spends, ClocksBy}
+use Rattle.run_control.specs.Feeding.{Fed, Fault, new_book, started_book, resumed_book, waiting_book, reset_book, seeing, taken, instruct, instructs, feed, fed, stands_next, standing}
+use Rattle.run_control.specs.Whole.{plain, spent_or_fault, clock_told, Bounded, Does, Leads}
 use Rattle.run_control.proofs.Fits.{set_small, register_fits, pc_fits}
 use Rattle.run_control.proofs.Images.{image_small}
-use Rattle.run_control.proofs.Ticks.{Short, Mid, Still, Ties, fresh_mid, mid_keeps, mid_slow_at, told_book, told_stands, fault_of_clock, tick_ties}
+use Rattle.run_control.proofs.Ticks.{Short, Ties, fresh_mid, mid_keeps, told_book, told_stands, fault_of_clock, tick_ties}
 
 zeros_by : (n : ℕ) → Small (replicate n 0)
 zeros_by zero i = omega arith

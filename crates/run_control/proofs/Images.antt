@@ -1,8 +1,8 @@
 -- Loading an image leaves words of 32 bits. Assumes nothing.
-use Rattle.std.proofs.Common.{ℕ, zero, suc, ◌+◌, ◌-◌, ◌*◌, ◌^◌, ◌<◌, Bool, true, false, cond, not, ◌||◌, eqb, ltb, List, [], ◌∷◌, ◌++◌, length, take, drop, Ok, Err, Result, arith}
+use Rattle.std.proofs.Common.{ℕ, zero, suc, ◌+◌, ◌-◌, ◌*◌, Bool, true, false, cond, not, ◌||◌, eqb, ltb, List, [], ◌∷◌, ◌++◌, length, take, drop, Ok, Err, Result, arith}
 use Rattle.image.specs.declared.refusal.ImageRefusal.{ImageRefusal}
 use Rattle.image.specs.declared.refusal.ImageRefusal.TheVariants.{Length, Mark, Trailer, Cut, Empty, Beyond, Overlap}
-use Rattle.image.specs.Numbers.{number_at, words_of}
+use Rattle.image.specs.Numbers.{words_of}
 use Rattle.image.specs.Segments.{Segment}
 use Rattle.image.specs.Reading.{Split, first_of, count_of, before_of, split_off, last_segment, followed, before_it, nothing_left, none_read, walk, mark_of, number_of_segments, back_of, body_of, reading, mark}
 use Rattle.image.specs.Loading.{stored, loaded, words_with, words_loaded}

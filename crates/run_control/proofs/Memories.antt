@@ -1,5 +1,5 @@
 -- A run over one kind of memory is a run over any delays, so that one statement serves every kind. Assumes nothing.
-use Rattle.std.proofs.Common.{◌≡◌, ℕ, suc, ◌≤◌, Bool, true, false, cond, List, [], ◌∷◌, map, length, Some, None, Ok, Err, Option, Result, sym, refl, ap, ◌∙◌, subst}
+use Rattle.std.proofs.Common.{◌≡◌, ℕ, suc, ◌≤◌, cond, List, [], ◌∷◌, map, length, Some, None, Option, Result, sym, refl, ap, ◌∙◌, subst}
 use Rattle.run_control.specs.declared.faults.MachineFault.{MachineFault}
 use Rattle.run_control.specs.declared.refusals.Refusal.{Refusal}
 use Rattle.run_control.specs.declared.calls.Call.{Call}

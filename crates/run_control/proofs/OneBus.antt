@@ -1,5 +1,5 @@
 -- The one-bus core has the facts that run control asks of a core. Assumes nothing.
-use Rattle.std.proofs.Common.{◌≡◌, ℕ, zero, suc, ◌+◌, ◌^◌, ◌<◌, ◌≤◌, Bool, true, false, cond, ltb, ◌⊎◌, List, length, sym, refl, ap, ◌∙◌, subst, inl, inr, arith}
+use Rattle.std.proofs.Common.{◌≡◌, ℕ, zero, suc, ◌+◌, ◌^◌, ◌<◌, ◌≤◌, Bool, true, cond, ◌⊎◌, List, length, sym, refl, ap, ◌∙◌, subst, inl, inr, arith}
 use native.Mathlib.Decide.{dec_lt}
 use Rattle.std.proofs.lemmas.Bool.{true≢false, lt-ltb, le-ltb}
 use Rattle.isa.specs.Operations.{Op, decoded_op}
@@ -18,7 +18,7 @@ use Rattle.rows.specs.Runs.{Fits}
 use Rattle.rows.specs.Refine as rows
 use Rattle.rows.proofs.Refining.{refines}
 use Rattle.rows.proofs.Moves.{moves_on, steps_last}
-use Rattle.run_control.specs.Core.{Core, CoreFacts, Refined, Outcome, and_then, steps, Quiet, Same, Reached}
+use Rattle.run_control.specs.Core.{CoreFacts, Refined, Outcome, and_then, steps, Quiet, Same, Reached}
 use Rattle.run_control.specs.Core.Outcome.{more, done, failed}
 use Rattle.run_control.specs.OneBus.{outcome, fetched_from, one_bus}
 use Rattle.run_control.proofs.Traces.{is_shift, Moves, micro_moves, fit_of, Trace, trace}

@@ -1,11 +1,11 @@
 -- The loop of a clock call: one clock more at the end of the fold. Assumes nothing.
-use Rattle.std.proofs.Common.{◌≡◌, ℕ, ◌+◌, ◌-◌, ◌<◌, ◌≤◌, Bool, true, false, cond, eqb, ltb, List, [], ◌∷◌, ◌++◌, length, Some, None, Ok, Err, Option, Result, sym, refl, ap, ◌∙◌, subst, arith, length-append}
+use Rattle.std.proofs.Common.{◌≡◌, ℕ, ◌+◌, ◌<◌, ◌≤◌, Bool, true, false, cond, ltb, List, [], ◌∷◌, ◌++◌, length, Some, None, Ok, Err, Result, sym, refl, ap, ◌∙◌, subst, arith, length-append}
 use Rattle.std.proofs.lemmas.Bool.{true≢false, ne_eqb, le-ltb}
 use Rattle.onebus.specs.declared.fault.CoreFault.{CoreFault}
 use Rattle.run_control.specs.declared.faults.MachineFault.{MachineFault}
 use Rattle.run_control.specs.Core.{Core, CoreFacts, Outcome}
 use Rattle.run_control.specs.Core.Outcome.{more, done, failed}
-use Rattle.run_control.specs.State.{State, Delays, Going, begin, turn, run_on, tick, clocked, told, told_of, ends, fault_in, answer_of, pause, stepped, later_delays, after_wait, after_reset}
+use Rattle.run_control.specs.State.{State, Delays, Going, begin, turn, run_on, tick, clocked, told, ends, fault_in, answer_of, pause, stepped, later_delays, after_wait, after_reset}
 use Rattle.run_control.specs.Calls.{counted, clock_refusal, Spends, Clocks, ClocksBy}
 use Rattle.run_control.proofs.Follow.{fault_stops}
 

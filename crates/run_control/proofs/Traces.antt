@@ -1,22 +1,22 @@
 -- Where in an instruction the one-bus core is, by its step and its instruction register. Assumes nothing.
-use Rattle.std.proofs.Common.{◌≡◌, ℕ, zero, suc, ◌+◌, ◌*◌, ◌/◌, ◌^◌, ◌<◌, ◌≤◌, Bool, true, false, cond, eqb, ltb, ◌⊎◌, List, length, get_or, set, sym, refl, ap, ◌∙◌, subst, inl, inr, arith}
+use Rattle.std.proofs.Common.{◌≡◌, ℕ, zero, suc, ◌+◌, ◌*◌, ◌<◌, ◌≤◌, Bool, true, false, cond, eqb, ltb, ◌⊎◌, List, length, get_or, sym, refl, ap, ◌∙◌, subst, inl, inr, arith}
 use native.Mathlib.Decide.{dec_lt}
-use Rattle.std.proofs.lemmas.Bool.{true≢false, eqb-true, ltb-true, ltb-false, lt-ltb}
+use Rattle.std.proofs.lemmas.Bool.{true≢false, eqb-true, ltb-true, ltb-false}
 use Rattle.isa.specs.Fields.{op_of}
 use Rattle.isa.specs.Operations.{Op, operation, decoded_op}
 use Rattle.isa.specs.Operations.Op.{nop, stop, br, brl, unassigned, transfer, binary, immediate, unary, shift}
 use Rattle.isa.specs.declared.operation.Transfer.TheVariants.{Load, Store, Address}
 use Rattle.isa.specs.Arithmetic.{plus}
-use Rattle.isa.specs.Book.{Visible, Cause, Access, access, address, fetched}
+use Rattle.isa.specs.Book.{Visible, Access, access, address, fetched}
 use Rattle.isa.specs.Book.Access.{fit, unfit}
 use Rattle.isa.specs.Clocks.{load_clocks, op_clocks, begun_clocks, clocks}
 use Rattle.rows.specs.declared.signal.Signal.TheVariants.{IrIn, Goto6, End, Stop}
 use Rattle.rows.specs.Signals.{gives}
 use Rattle.rows.specs.Rows.{table}
-use Rattle.rows.specs.Core.{Core, Outcome, up, at_step, held, written, stored, bus, closed, carried_out, refused, allowed, addressed, touches, conditional, met, assigned, rowless, control_at, micro, and_then, steps}
+use Rattle.rows.specs.Core.{Core, Outcome, up, at_step, held, written, stored, bus, closed, carried_out, allowed, addressed, touches, conditional, met, assigned, rowless, control_at, micro, and_then, steps}
 use Rattle.rows.specs.Core.Outcome.{more, done, failed}
 use Rattle.rows.specs.After.{visible}
-use Rattle.rows.specs.Refine.{Refined, Amid, Within}
+use Rattle.rows.specs.Refine.{Refined, Within}
 use Rattle.rows.proofs.Table.{all_codes, some_code}
 use Rattle.rows.proofs.Runs.{clock}
 use Rattle.rows.proofs.Moves.{steps_last}

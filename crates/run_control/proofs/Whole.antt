@@ -1,23 +1,22 @@
 -- After every list of calls the machine agrees with the book; machines keep pace; a reset leaves whole instructions. Assumes nothing.
-use Rattle.std.proofs.Common.{◌≡◌, ℕ, zero, suc, ◌+◌, ◌-◌, ◌*◌, ◌<◌, ◌≤◌, Bool, true, false, cond, eqb, ltb, List, [], ◌∷◌, ◌++◌, length, Some, None, Ok, Err, Option, Result, sym, refl, ap, ◌∙◌, subst, add-one, arith}
+use Rattle.std.proofs.Common.{◌≡◌, ℕ, suc, ◌+◌, Bool, true, false, cond, ltb, List, [], ◌∷◌, ◌++◌, Some, None, Ok, Result, sym, refl, ap, ◌∙◌, subst, add-one, arith}
 use Rattle.std.proofs.lemmas.Bool.{true≢false}
-use Rattle.isa.specs.Book.{Visible, After, instruction}
+use Rattle.isa.specs.Book.{After, instruction}
 use Rattle.isa.specs.Book.After.{next, fault}
 use Rattle.run_control.specs.declared.faults.MachineFault.{MachineFault}
-use Rattle.run_control.specs.declared.refusals.Refusal.{Refusal}
-use Rattle.run_control.specs.declared.refusals.Refusal.TheVariants.{Running, Stopped, ClockCount, ClocksFull}
+use Rattle.run_control.specs.declared.refusals.Refusal.TheVariants.{Stopped, ClocksFull}
 use Rattle.run_control.specs.declared.calls.Call.{Call}
-use Rattle.run_control.specs.declared.calls.Call.TheVariants.{Start, Resume, Reset, SetRegister, SetWord, Load, Clock}
+use Rattle.run_control.specs.declared.calls.Call.TheVariants.{Start, Clock}
 use Rattle.run_control.specs.declared.calls.Answer.{Answer}
 use Rattle.run_control.specs.declared.calls.Answer.TheVariants.{Done, Refused, Spent, Faulted}
 use Rattle.run_control.specs.declared.calls.Turn.{Turn}
 use Rattle.run_control.specs.Core.{Core, CoreFacts, Outcome, Small, seen, steps, and_then}
 use Rattle.run_control.specs.Core.Outcome.{more, done, failed}
-use Rattle.run_control.specs.State.{State, Delays, Going, begin, turn, run_on, tick, told, answer_of, ends, fault_in, after_reset}
-use Rattle.run_control.specs.Calls.{set_up, start_answer, start_state, started, with_reset, reset_state, counted, clock_refusal, Spends, Clocks, ClocksBy}
-use Rattle.run_control.specs.Feeding.{Fed, Fault, new_book, started_book, reset_book, taken, done_one, instruct, instructs, feed, fed, standing}
-use Rattle.run_control.specs.Whole.{clock_told, spent_or_fault, Bounded, OnlyClocked, StartedThenClocked, busy, Agrees, InStep, Restarted, Does, Leads, Comes, Follows, Carries, KeepsPace, Paced, any_delay, ResetsLeaveWholeInstructions, EveryCoreFollows}
-use Rattle.run_control.proofs.Ticks.{Mid, Still, Ties, mid_keeps, mid_slow_at}
+use Rattle.run_control.specs.State.{State, Delays, begin, turn, run_on, told, answer_of, ends, fault_in, after_reset}
+use Rattle.run_control.specs.Calls.{set_up, with_reset, counted, clock_refusal, Spends, ClocksBy}
+use Rattle.run_control.specs.Feeding.{Fed, new_book, started_book, reset_book, taken, done_one, instruct, instructs, feed, fed, standing}
+use Rattle.run_control.specs.Whole.{clock_told, spent_or_fault, Bounded, OnlyClocked, StartedThenClocked, Agrees, Does, Leads, Comes, Follows, Carries, KeepsPace, Paced, any_delay, ResetsLeaveWholeInstructions, EveryCoreFollows}
+use Rattle.run_control.proofs.Ticks.{Ties, mid_keeps, mid_slow_at}
 use Rattle.run_control.proofs.Follow.{comes_ties, tick_reset, told_reset}
 
 module _ (k : Core) (f : CoreFacts k) where

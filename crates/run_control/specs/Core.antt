@@ -1,5 +1,5 @@
 -- A core, as facts: what a clock of it does, and that its instructions are the book's. Assumes nothing.
-use Rattle.std.specs.Prelude.{◌≡◌, ℕ, zero, suc, ◌+◌, ◌^◌, ◌<◌, ◌≤◌, Bool, cond, List, set, replicate, ◌≢◌, slice_index, slice_set}
+use Rattle.std.specs.Prelude.{◌≡◌, ℕ, suc, ◌+◌, ◌^◌, ◌<◌, ◌≤◌, Bool, cond, List, replicate, ◌≢◌, slice_index, slice_set}
 use Rattle.isa.specs.Book.{Visible, Cause, After, instruction}
 use Rattle.isa.specs.Book.After.{next, fault}
 use Rattle.rows.specs.Runs.{Fits}

@@ -1,6 +1,5 @@
 -- Runs of real programs, from a machine newly set up. Assumes nothing.
 use Rattle.std.specs.Prelude.{◌≡◌, ℕ, Bool, true, false, List, [], ◌∷◌, slice_index}
-use Rattle.memory.specs.declared.memory.MemoryFault.{MemoryFault}
 use Rattle.onebus.specs.declared.fault.Cause.TheVariants.{NoWord}
 use Rattle.rows.specs.Core as bus
 use Rattle.run_control.specs.declared.calls.Call.{Call}

@@ -1,5 +1,5 @@
 -- The book machine that is fed each call and, of its answer, whether it was refused, how many instructions finished and whether a fault was told. Assumes nothing.
-use Rattle.std.specs.Prelude.{ℕ, zero, suc, ◌+◌, Bool, true, false, cond, List, [], ◌∷◌, Some, None, Option}
+use Rattle.std.specs.Prelude.{ℕ, ◌+◌, Bool, true, false, cond, List, [], ◌∷◌, Some, None, Option}
 use Rattle.isa.specs.Book.{Visible, After, Book, instruction, landed, with_pc, with_register, with_word}
 use Rattle.isa.specs.Book.After.{next, fault}
 use Rattle.onebus.specs.declared.fault.Cause.{Cause}

@@ -8,7 +8,7 @@ use Rattle.rows.specs.Core.{at_step, micro, waits}
 use Rattle.onebus.specs.View.{zeroed, restarted, started, with_register}
 use Rattle.run_control.specs.Core.{Core, Outcome}
 use Rattle.run_control.specs.Core.Outcome.{more, done, failed}
-use Rattle.run_control.specs.Whole.{AnyDelays, any_delay, Follows, KeepsPace, ResetsLeaveWholeInstructions}
+use Rattle.run_control.specs.Whole.{any_delay, Follows, KeepsPace, ResetsLeaveWholeInstructions}
 
 -- run control itself says what a fault leaves
 abbrev pub outcome : bus.Outcome → Outcome bus.Core

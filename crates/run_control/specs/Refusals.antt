@@ -1,5 +1,5 @@
 -- How the refusals of the machine's calls are told: by number, and in words. Assumes nothing.
-use Rattle.std.specs.Prelude.{ℕ, List, ◌++◌, Some, None, codes, decimal, Option}
+use Rattle.std.specs.Prelude.{ℕ, List, ◌++◌, Some, codes, decimal, Option}
 use Rattle.image.specs.Refusals as image
 use Rattle.run_control.specs.declared.refusals.Refusal.{Refusal}
 use Rattle.run_control.specs.declared.refusals.Refusal.TheVariants.{Running, FaultMark, Stopped, NoRegister, NoWord, ClockCount, ClocksFull, Image}

@@ -1,5 +1,5 @@
 -- Run control around a core, and one clock of it. Assumes nothing.
-use Rattle.std.specs.Prelude.{ℕ, ◌+◌, ◌-◌, ◌/◌, ◌%◌, Bool, true, false, cond, not, List, [], ◌∷◌, length, Some, None, Ok, Err, Option, Result, ◌==◌, nat_lt}
+use Rattle.std.specs.Prelude.{ℕ, ◌+◌, ◌-◌, ◌/◌, ◌%◌, Bool, true, false, cond, List, [], ◌∷◌, length, Some, None, Ok, Err, Option, Result, ◌==◌, nat_lt}
 use Rattle.isa.specs.Book.{Cause}
 use Rattle.onebus.specs.Faults.{cause_of}
 use Rattle.onebus.specs.declared.fault.CoreFault.{CoreFault}
