@@ -1,4 +1,4 @@
-use Rattle.std.proofs.Common.{◌≡◌, ◌+◌, ◌<◌, length, take, sym, refl, ap, ◌∙◌, subst, arith, take_all}
+use Rattle.std.proofs.Common.{◌≡◌, ◌<◌, length, take, refl, ◌∙◌, subst, arith, take_all}
 use lib.Seq.{map-set_same}
 use Rattle.std.proofs.lemmas.List.{take_more_set}
 use Rattle.run_control.specs.OneBus.{one_bus}
@@ -21,11 +21,11 @@ returns g c =
     let s = view m c.loop-i.machine in
     let all : take c.loop-i.i c.loop-i.turns ≡ c.loop-i.turns = take_all _ _ (omega arith) in
     let l : Comes one_bus m.delay (m.words c.args.memory) c.args.memory c.loop-i.turns s
-    = subst (λ x. Leads one_bus m.delay x c.loop-i.turns s) c.set-up-machine.ensures.state (subst (λ x. Leads one_bus m.delay (view m c.set-up-machine.result) x s) all c.loop-i.invariant.1) in
+    = subst (λ x. Leads one_bus m.delay x c.loop-i.turns s) c.set_up-machine.ensures.state (subst (λ x. Leads one_bus m.delay (view m c.set_up-machine.result) x s) all c.loop-i.invariant.1) in
     record {
       calls = c.loop-i.invariant.0;
       comes = l;
       agrees = follows one_bus one_bus_facts m.delay m.laws.short _ c.args.memory _ s (m.laws.fits _) l;
-      lent = c.loop-i.invariant.2 ∙ c.set-up-machine.ensures.lent;
+      lent = c.loop-i.invariant.2 ∙ c.set_up-machine.ensures.lent;
       pace = paced one_bus one_bus_facts m.delay m.laws.short _ c.args.memory _ s (m.laws.fits _) l;
     }

@@ -1,7 +1,6 @@
-use Rattle.std.proofs.Common.{◌≡◌, true, false, cond, Ok, Err, sym, refl, ap, ◌∙◌}
+use Rattle.std.proofs.Common.{Ok, Err, sym, refl, ap, ◌∙◌}
 use Rattle.rows.specs.Rows.{table}
 use Rattle.onebus.specs.View.{core_of}
-use Rattle.onebus.specs.declared.progress.Progress.TheVariants.{Within, Finished}
 use Rattle.run_control.specs.State.{after_end}
 use Rattle.run_control.proofs.Steps.{clocked_step, waited_for}
 use Rattle.machine.specs.View.{view}
@@ -43,4 +42,4 @@ returns-in-Err g c =
     let s = view m c.args.self.now in
     let e = c.in-Err.ensures in
     let h = (clocked_step table s (m.delay c.step.new.memory) (Err c.in-Err.fault) (core_of c.step.new.self) (m.words c.step.new.memory) e.answer e.core e.words e.delays (waited_for s.core s.words c.args.self.now.core.step)).faulted c.in-Err.fault refl in
-    record { answer = ap (λ x. Err (c.in-Err.fault, x)) c.fetched-from-from.ensures ∙ h.0; state = h.1; lent = e.frame }
+    record { answer = ap (λ x. Err (c.in-Err.fault, x)) c.fetched_from-from.ensures ∙ h.0; state = h.1; lent = e.frame }

@@ -1,4 +1,4 @@
-use Rattle.std.proofs.Common.{◌≡◌, ◌+◌, ◌≤◌, true, false, [], ◌∷◌, ◌++◌, Ok, Err, sym, ap, ◌∙◌, subst, arith}
+use Rattle.std.proofs.Common.{◌≡◌, ◌+◌, ◌≤◌, true, false, [], ◌∷◌, ◌++◌, Ok, sym, ap, ◌∙◌, subst, arith}
 use Rattle.run_control.specs.Calls.{counted}
 use Rattle.run_control.specs.OneBus.{one_bus}
 use Rattle.run_control.proofs.OneBus.{one_bus_facts}
@@ -48,7 +48,7 @@ returns-in-Err g c =
     let u = view m c.tick.new.self in
     let x = c.tick.new.self.memory in
     let so = c.loop-self.invariant.3 in
-    let room : counted s + c.args.wanted ≤ 1000000000000 = subst (λ n. n + c.args.wanted ≤ 1000000000000) c.counted-clocks-clocks.ensures (omega arith) in
+    let room : counted s + c.args.wanted ≤ 1000000000000 = subst (λ n. n + c.args.wanted ≤ 1000000000000) c.counted_clocks-clocks.ensures (omega arith) in
     record {
       clocks = goes one_bus one_bus_facts m.delay s c.args.wanted u _ (so.0 ++ x ∷ []) c.if-not-self.false c.if-wanted-eq0.false c.if-wanted-gt1000000.false room
           (spends_fault one_bus one_bus_facts m.delay s t _ _ so.0 so.1 u x c.args.wanted (c.in-Err.core, c.in-Err.instruction) c.loop-self-test.true c.tick.ensures.state c.in-Err.ensures.answer c.if-spent-wanted.true);
