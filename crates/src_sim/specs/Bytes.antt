@@ -1,5 +1,5 @@
 -- The bytes of an image as a script writes them. Assumes nothing.
-use Rattle.std.specs.Prelude.{ℕ, ◌+◌, ◌*◌, cond, ◌&&◌, List, [], ◌∷◌, Some, None, Option, nat_lt}
+use Rattle.std.specs.Prelude.{ℕ, ◌+◌, ◌*◌, cond, ◌&&◌, Some, None, Option, nat_lt}
 use Rattle.std.specs.Char.{digit_value}
 
 -- the byte that two hexadecimal digits write
