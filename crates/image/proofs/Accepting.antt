@@ -3,7 +3,7 @@ use Rattle.std.proofs.Common.{◌≡◌, ℕ, zero, suc, ◌+◌, ◌-◌, ◌^�
 use Rattle.std.proofs.ByRecursion.{All-take, All-drop, All-from_get_or}
 use Rattle.std.proofs.lemmas.List.{append_assoc, append-nil, length-append, length-take, length-drop, length_push, take_at, drop_at, drop-drop, drop_all, take-append-drop, nil_from_length}
 use Rattle.std.proofs.lemmas.Bool.{eqb-true, eq-eqb, or_parts, or_from, le-ltb, ltb-false, cond-true, cond-false, cases_Bool, not_from_true, not-false}
-use Rattle.std.specs.List.{flat_map, AllByRecursion as All}
+use Rattle.std.specs.List.{flat_map, AllByRecursion}
 use Rattle.image.specs.declared.refusal.ImageRefusal.{ImageRefusal}
 use Rattle.image.specs.declared.refusal.ImageRefusal.TheVariants.{LeftOver}
 use Rattle.image.specs.Accepting.{EndsInImage, AcceptsExactly}
@@ -17,7 +17,7 @@ use Rattle.image.proofs.Splits.{apart, split_whole, taken_whole}
 use Rattle.image.proofs.Walks.{step, walk_length}
 
 -- what a walk accepts is written of segments in order
-pub walk_only : (k limit : ℕ) (bytes : List ℕ) (segments : List Segment) → All (λ b. b < 256) bytes → walk k limit bytes ≡ Ok segments →
+pub walk_only : (k limit : ℕ) (bytes : List ℕ) (segments : List Segment) → AllByRecursion (λ b. b < 256) bytes → walk k limit bytes ≡ Ok segments →
     (bytes ≡ flat_map segment_bytes segments) × Ascending 0 limit segments
 walk_only zero limit bytes segments small h = at (eqb (length bytes) 0) refl h where
   at : (b : Bool) → eqb (length bytes) 0 ≡ b → none_read (cond b (Ok tt) (Err (LeftOver (length bytes)))) ≡ Ok segments →
@@ -32,7 +32,7 @@ walk_only (suc i) limit bytes segments small h =
     let off = taken_whole i limit bytes s.split s.taken in
     let last = s.split.segment in
     let cut : split_off bytes ≡ s.split = off.1 in
-    let below : All (λ b. b < 256) s.split.before = subst (λ x. All (λ b. b < 256) x.before) cut (All-take (λ b. b < 256) _ bytes small) in
+    let below : AllByRecursion (λ b. b < 256) s.split.before = subst (λ x. AllByRecursion (λ b. b < 256) x.before) cut (All-take (λ b. b < 256) _ bytes small) in
     let r = walk_only i last.first s.split.before s.front below s.before in
     let is : bytes ≡ s.split.before ++ segment_bytes last = subst (λ x. bytes ≡ x.before ++ segment_bytes x.segment) cut (taken_written limit bytes small off.0) in
     let filled : Filled last = subst (λ x. Filled x.segment) cut (taken_filled limit bytes small off.0) in
@@ -120,7 +120,7 @@ closed size bytes segments o =
     ∙ o.walked
 
 -- the bytes of an image, before and after its trailer was written
-trailer_written : (bytes : List ℕ) → All (λ b. b < 256) bytes → 12 ≤ length bytes →
+trailer_written : (bytes : List ℕ) → AllByRecursion (λ b. b < 256) bytes → 12 ≤ length bytes →
     drop (length bytes - 12) bytes ≡ number_bytes (mark_of bytes) ++ (number_bytes (number_of_segments bytes) ++ number_bytes (back_of bytes))
 trailer_written bytes small h =
     let n = length bytes in
@@ -132,7 +132,7 @@ trailer_written bytes small h =
     number_here bytes (n - 12) (n - 8) a (omega arith) small
     ∙ ap (λ xs. number_bytes (mark_of bytes) ++ xs) (number_here bytes (n - 8) (n - 4) b (omega arith) small ∙ ap (λ xs. number_bytes (number_of_segments bytes) ++ xs) end)
 
-reading_only : (size : ℕ) (bytes : List ℕ) (segments : List Segment) → All (λ b. b < 256) bytes → reading size bytes ≡ Ok segments → EndsInImage size bytes segments
+reading_only : (size : ℕ) (bytes : List ℕ) (segments : List Segment) → AllByRecursion (λ b. b < 256) bytes → reading size bytes ≡ Ok segments → EndsInImage size bytes segments
 unfolding written
 reading_only size bytes segments small h =
     let o = opened size bytes segments h in

@@ -4,7 +4,7 @@ use Rattle.std.proofs.ByRecursion.{All-set}
 use Rattle.std.proofs.lemmas.List.{length-set, get_or-set_same, get_or-set_other, take_more, take_all, length-take-le}
 use Rattle.std.proofs.lemmas.Option.{slice_get_past as nth_past, slice_get-get_or}
 use Rattle.std.proofs.lemmas.Bool.{cases_lt, false≢true}
-use Rattle.std.specs.List.{AllByRecursion as All, slice_get}
+use Rattle.std.specs.List.{AllByRecursion, slice_get}
 use Rattle.memory.specs.Memory.{Loan}
 use Rattle.image.specs.Loading.{stored, loaded, Listed, SetsWhatIsListed, verdict, words_with, Loads}
 use Rattle.image.specs.Reading.{reading}
@@ -35,7 +35,7 @@ in_stored words n (v ∷ vs) (suc k) h l =
     let e : n + suc k ≡ n + 1 + k = omega arith in
     ap (λ m. get_or (stored (set words n v) (n + 1) vs) m 0) e ∙ in_stored (set words n v) (n + 1) vs k (omega arith) (simp length-set (omega arith))
 
-all_stored : (words : List ℕ) (n : ℕ) (vs : List ℕ) → All (λ w. w < 2 ^ 32) vs → All (λ w. w < 2 ^ 32) words → All (λ w. w < 2 ^ 32) (stored words n vs)
+all_stored : (words : List ℕ) (n : ℕ) (vs : List ℕ) → AllByRecursion (λ w. w < 2 ^ 32) vs → AllByRecursion (λ w. w < 2 ^ 32) words → AllByRecursion (λ w. w < 2 ^ 32) (stored words n vs)
 all_stored words n [] h a = a
 all_stored words n (v ∷ vs) h a = all_stored (set words n v) (n + 1) vs h.1 (All-set (λ w. w < 2 ^ 32) words n v h.0 a)
 

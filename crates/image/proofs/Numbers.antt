@@ -4,7 +4,7 @@ use Rattle.std.proofs.lemmas.Bool.{cases_lt, lt-ltb, le-ltb, cond-true, cond-fal
 use Rattle.std.proofs.lemmas.List.{get_or-drop, drop_at, drop-drop, length-drop}
 use Rattle.std.proofs.ByRecursion.{All-drop}
 use Rattle.std.proofs.lemmas.Option.{slice_get_past}
-use Rattle.std.specs.List.{slice_get, flat_map, AllByRecursion as All}
+use Rattle.std.specs.List.{slice_get, flat_map, AllByRecursion}
 use Rattle.image.specs.Numbers.{number, number_at, words_of, number_bytes}
 
 -- the number at i of what is left past n
@@ -48,7 +48,7 @@ word_here bs k = elim (cases_lt k (length bs / 4)) [
 ]
 
 -- words are of 32 bits
-pub words_below : (bs : List ℕ) → All (λ v. v < 2 ^ 32) (words_of bs)
+pub words_below : (bs : List ℕ) → AllByRecursion (λ v. v < 2 ^ 32) (words_of bs)
 words_below [] = tt
 words_below (a ∷ []) = tt
 words_below (a ∷ (b ∷ [])) = tt
@@ -70,7 +70,7 @@ bytes_back a b c d ha hb hc hd =
     cc
 
 -- words that are written are read back
-pub words_back : (vs : List ℕ) → All (λ v. v < 2 ^ 32) vs → words_of (flat_map number_bytes vs) ≡ vs
+pub words_back : (vs : List ℕ) → AllByRecursion (λ v. v < 2 ^ 32) vs → words_of (flat_map number_bytes vs) ≡ vs
 words_back [] h = refl
 words_back (v ∷ vs) h =
     let e = number_back v h.0 in
@@ -82,7 +82,7 @@ length_written [] = refl
 length_written (v ∷ vs) = omega (arith, length_written vs)
 
 -- bytes are what is written of the words that are read of them
-pub written_words : (bs : List ℕ) (n : ℕ) → length bs ≡ 4 * n → All (λ b. b < 256) bs → flat_map number_bytes (words_of bs) ≡ bs
+pub written_words : (bs : List ℕ) (n : ℕ) → length bs ≡ 4 * n → AllByRecursion (λ b. b < 256) bs → flat_map number_bytes (words_of bs) ≡ bs
 written_words [] n e h = refl
 written_words (a ∷ []) n e h = absurd (omega arith)
 written_words (a ∷ (b ∷ [])) n e h = absurd (omega arith)
@@ -93,14 +93,14 @@ written_words (a ∷ (b ∷ (c ∷ (d ∷ rest)))) n e h =
     ap (λ xs. xs ++ flat_map number_bytes (words_of rest)) here ∙ ap (λ xs. a ∷ (b ∷ (c ∷ (d ∷ xs)))) r
 
 -- four bytes at the front, and so at any place
-number_front : (bs : List ℕ) → 4 ≤ length bs → All (λ b. b < 256) bs → bs ≡ number_bytes (number_at bs 0) ++ drop 4 bs
+number_front : (bs : List ℕ) → 4 ≤ length bs → AllByRecursion (λ b. b < 256) bs → bs ≡ number_bytes (number_at bs 0) ++ drop 4 bs
 number_front [] l h = absurd (omega arith)
 number_front (a ∷ []) l h = absurd (omega arith)
 number_front (a ∷ (b ∷ [])) l h = absurd (omega arith)
 number_front (a ∷ (b ∷ (c ∷ []))) l h = absurd (omega arith)
 number_front (a ∷ (b ∷ (c ∷ (d ∷ rest)))) l h = sym (ap (λ xs. xs ++ rest) (bytes_back a b c d h.0 h.1.0 h.1.1.0 h.1.1.1.0))
 
-pub number_here : (bs : List ℕ) (i j : ℕ) → i + 4 ≡ j → j ≤ length bs → All (λ b. b < 256) bs → drop i bs ≡ number_bytes (number_at bs i) ++ drop j bs
+pub number_here : (bs : List ℕ) (i j : ℕ) → i + 4 ≡ j → j ≤ length bs → AllByRecursion (λ b. b < 256) bs → drop i bs ≡ number_bytes (number_at bs i) ++ drop j bs
 number_here bs i j e l h =
     let z : i + 0 ≡ i = omega arith in
     number_front (drop i bs) (simp length-drop (omega arith)) (All-drop (λ b. b < 256) i bs h)

@@ -2,7 +2,7 @@
 use Rattle.std.proofs.Common.{◌≡◌, ℕ, ◌+◌, ◌-◌, ◌*◌, ◌^◌, ◌<◌, ◌≤◌, List, [], ◌∷◌, ◌++◌, length, take, drop, sym, refl, ap, ◌∙◌, subst, arith}
 use Rattle.std.proofs.lemmas.List.{append_assoc, append-nil, length-append, length-take, length-drop, take_at, drop_at, drop-drop, drop_all, take-append-drop}
 use Rattle.std.proofs.ByRecursion.{All-take, All-drop}
-use Rattle.std.specs.List.{flat_map, AllByRecursion as All}
+use Rattle.std.specs.List.{flat_map, AllByRecursion}
 use Rattle.image.specs.Numbers.{number_at, words_of, number_bytes}
 use Rattle.image.specs.Segments.{Segment, end_of, Filled, Ascending}
 use Rattle.image.specs.Reading.{first_of, count_of, before_of, split_off}
@@ -92,7 +92,7 @@ module _ (front : List ℕ) (s : Segment) (filled : Filled s) (first_small : s.f
   }
 
 -- a segment that is taken off the end of bytes
-module _ (limit : ℕ) (bytes : List ℕ) (small : All (λ b. b < 256) bytes) (w : Whole limit bytes) where
+module _ (limit : ℕ) (bytes : List ℕ) (small : AllByRecursion (λ b. b < 256) bytes) (w : Whole limit bytes) where
   abbrev start : ℕ
   start = before_of bytes
 

@@ -1,6 +1,6 @@
 -- What loading an image does to the words of a memory. Assumes nothing.
 use Rattle.std.specs.Prelude.{◌≡◌, ℕ, ◌+◌, ◌^◌, ◌<◌, true, ◌⊎◌, List, [], ◌∷◌, length, is_err, Ok, Err, Result, slice_index, slice_set}
-use Rattle.std.specs.List.{AllByRecursion as All}
+use Rattle.std.specs.List.{AllByRecursion}
 use Rattle.memory.specs.Memory.{Loan}
 use Rattle.image.specs.declared.refusal.ImageRefusal.{ImageRefusal}
 use Rattle.image.specs.Reading.{reading}
@@ -26,7 +26,7 @@ pub record SetsWhatIsListed (words : List ℕ) (segments : List Segment) : Type 
   pub size : length (loaded words segments) ≡ length words
   pub listed : (n v : ℕ) → Listed segments n v → slice_index (loaded words segments) n ≡ v
   pub others : (n : ℕ) → ((v : ℕ) → Listed segments n v → ⊥) → slice_index (loaded words segments) n ≡ slice_index words n
-  pub words32 : All (λ w. w < 2 ^ 32) words → All (λ w. w < 2 ^ 32) (loaded words segments)
+  pub words32 : AllByRecursion (λ w. w < 2 ^ 32) words → AllByRecursion (λ w. w < 2 ^ 32) (loaded words segments)
 
 -- what loading answers where reading answers so
 abbrev pub verdict : Result (List Segment) ImageRefusal → Result (Unit {0}) ImageRefusal

@@ -1,7 +1,7 @@
 -- The core of the code as the core of the definitions. Assumes nothing.
 use Rattle.std.specs.Prelude.{ℕ, false, List, replicate, slice_set}
 use Rattle.rows.specs.Core as model
-use Rattle.onebus.specs.declared.core.Core.{Core}
+use Rattle.onebus.specs.declared.register_set.Core.{Core}
 
 abbrev pub core_of : Core → model.Core
 core_of k = record {

@@ -9,7 +9,7 @@ ghost use Rattle.rows.specs.Signals.{gives};
 ghost use Rattle.onebus.specs.View.{core_of};
 
 use crate::control::ControlWord;
-use crate::core::Core;
+use crate::register_set::Core;
 use isa::{c1_word, c2_word, condition};
 use rows::Signal;
 

@@ -2,17 +2,17 @@
 #![tactic(auto)]
 
 mod control;
-mod core;
 mod datapath;
 mod fault;
 mod microcode;
 mod progress;
 mod questions;
+mod register_set;
 mod settings;
 mod step;
 
 pub use control::ControlWord;
-pub use core::Core;
 pub use fault::{Cause, CoreFault};
 pub use microcode::{control_store, control_word};
 pub use progress::Progress;
+pub use register_set::Core;

@@ -4,7 +4,7 @@ ghost use Rattle.rows.specs.Rows.{table};
 ghost use Rattle.rows.specs.Core.{waits};
 ghost use Rattle.onebus.specs.View.{core_of};
 
-use crate::core::Core;
+use crate::register_set::Core;
 use rows::Signal;
 
 impl Core {

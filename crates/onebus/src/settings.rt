@@ -3,7 +3,7 @@ ghost use Rattle.std.specs.Prelude.{◌≡◌, ◌<◌, if◌then◌else◌, nat
 ghost use Rattle.rows.specs.Core.{at_step};
 ghost use Rattle.onebus.specs.View.{core_of, with_register, zeroed, cleared, restarted, started};
 
-use crate::core::Core;
+use crate::register_set::Core;
 
 impl Core {
     /// A core whose registers are all 0.

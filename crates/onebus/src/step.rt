@@ -6,11 +6,11 @@ ghost use Rattle.onebus.specs.View.{core_of};
 ghost use Rattle.onebus.specs.Steps.{progress_of, Reads, Writes, Accesses, Stepped};
 
 use crate::control::ControlWord;
-use crate::core::Core;
 use crate::datapath::{op, raised};
 use crate::fault::{Cause, CoreFault};
 use crate::microcode::control_store;
 use crate::progress::Progress;
+use crate::register_set::Core;
 use memory::Memory;
 use rows::Signal;
 

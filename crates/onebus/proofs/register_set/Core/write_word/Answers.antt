@@ -5,7 +5,7 @@ use Rattle.onebus.specs.declared.fault.Cause.TheVariants.{NoWord}
 use Rattle.onebus.specs.View.{core_of}
 use Rattle.onebus.specs.Steps.{Writes}
 use Rattle.onebus.proofs.Stepping.{refusal_is, refused_write}
-use Rattle.onebus.proofs.core.Core.write_word.Goals as goal
+use Rattle.onebus.proofs.register_set.Core.write_word.Goals as goal
 
 pub returns-in_err-write : goal.returns-in_err-write
 returns-in_err-write g c =

@@ -1,7 +1,7 @@
 use Rattle.std.proofs.Common.{sym, ◌∙◌}
 use Rattle.onebus.specs.View.{core_of}
 use Rattle.onebus.proofs.Stepping.{stepped, stepped_not}
-use Rattle.onebus.proofs.core.Core.step_under.Goals as goal
+use Rattle.onebus.proofs.register_set.Core.step_under.Goals as goal
 
 pub returns-in-Ok : goal.returns-in-Ok
 returns-in-Ok g c =

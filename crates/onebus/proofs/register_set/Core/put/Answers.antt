@@ -1,6 +1,6 @@
 use Rattle.std.proofs.Common.{◌^◌, ◌<◌, arith}
 use Rattle.rows.proofs.Kept.{set_small}
-use Rattle.onebus.proofs.core.Core.put.Goals as goal
+use Rattle.onebus.proofs.register_set.Core.put.Goals as goal
 
 pub invariant_of-self : goal.invariant_of-self
 invariant_of-self c =

@@ -1,5 +1,5 @@
 use Rattle.onebus.proofs.Registers.{all_small}
-use Rattle.onebus.proofs.core.Core.clear_registers.Goals as goal
+use Rattle.onebus.proofs.register_set.Core.clear_registers.Goals as goal
 
 pub invariant_of-self : goal.invariant_of-self
 invariant_of-self c = record {
