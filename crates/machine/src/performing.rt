@@ -9,10 +9,10 @@ use crate::frame::Machine;
 use memory::Memory;
 use run_control::{Answer, Call, Refusal, Turn};
 
-fn plainly(res: Result<(), Refusal>) -> Answer
-    ensures { result ≡ plain res }
+fn plainly(outcome: Result<(), Refusal>) -> Answer
+    ensures { result ≡ plain outcome }
 {
-    match res {
+    match outcome {
         Ok(()) => Answer::Done,
         Err(refusal) => Answer::Refused(refusal),
     }

@@ -65,7 +65,7 @@ module _ {S : Type 0} (words : S → List ℕ) (delay : S → ℕ → ℕ) (fram
     pub refused_kept : length (words s) ≤ n → delay t ≡ delay s
     pub frame_kept : frame t ≡ frame s
 
-  -- a write of v to word number n replaces that word only (set changes nothing past the end), and later delays only where it is accepted
+  -- a write of v to word number n replaces that word only (slice_set changes nothing past the end), and later delays only where it is accepted
   pub record Written (s : S) (n v : ℕ) (r : Result (Unit {0}) MemoryFault) (t : S) : Type 0 where
     pub answer : r ≡ write_of (words s) n
     pub word_set : words t ≡ slice_set (words s) n v

@@ -80,9 +80,9 @@ clock s ws l = ap (λ (w : ℕ). execute w s ws) (looked_up s.ir s.t (ltb→lt s
 
 -- from a row to the control store, where the fetch has read a word that decodes to its operation
 module _ (v : Visible) (ok : access v.pc (length v.words) ≡ fit) where
-  IsTrue_parts : (x y : Bool) → T (x && y) → T x × T y
-  IsTrue_parts true y t = (tt, t)
-  IsTrue_parts false y t = absurd t
+  and_parts : (x y : Bool) → T (x && y) → T x × T y
+  and_parts true y t = (tt, t)
+  and_parts false y t = absurd t
 
   no_wait_at_one : (t : ℕ) → T (ltb 2 t) → eqb t 1 ≡ false
   no_wait_at_one t l = ne_eqb t 1 (λ e. absurd (omega (arith, ltb→lt 2 t l)))
@@ -92,7 +92,7 @@ module _ (v : Visible) (ok : access v.pc (length v.words) ≡ fit) where
 
   amid : (j : ℕ) (s : Core) → 2 < j → At (decoded_op (fetched v)) v.regs (fetched v) j s → Amid v j s v.words
   amid j s g h =
-      let p = IsTrue_parts (ltb 2 s.t) (ltb s.t 8) h.0 in
+      let p = and_parts (ltb 2 s.t) (ltb s.t 8) h.0 in
       let low : s.t < 8 = ltb→lt s.t 8 p.1 in
       let late : 2 < s.t = ltb→lt 2 s.t p.0 in
       let o : Op = decoded_op (fetched v) in
@@ -115,10 +115,10 @@ module _ (v : Visible) (ok : access v.pc (length v.words) ≡ fit) where
   pub row_runs : {j : ℕ} {s : Core} {n : ℕ} {r : Outcome} → 2 < j → Row (decoded_op (fetched v)) v.regs (fetched v) v.words j s n r → Runs v j s n r
   row_runs {j} {s} g (end h x) =
       last (amid j s g h)
-      (clock s v.words (IsTrue_parts (ltb 2 s.t) (ltb s.t 8) h.0).1 ∙ ap (λ (i : ℕ). execute (control_word (decoded_op i) s.t) s v.words) h.2 ∙ x)
+      (clock s v.words (and_parts (ltb 2 s.t) (ltb s.t 8) h.0).1 ∙ ap (λ (i : ℕ). execute (control_word (decoded_op i) s.t) s v.words) h.2 ∙ x)
   row_runs {j} {s} g (then s' h x k) =
       step s' (amid j s g h)
-      (clock s v.words (IsTrue_parts (ltb 2 s.t) (ltb s.t 8) h.0).1 ∙ ap (λ (i : ℕ). execute (control_word (decoded_op i) s.t) s v.words) h.2 ∙ x)
+      (clock s v.words (and_parts (ltb 2 s.t) (ltb s.t 8) h.0).1 ∙ ap (λ (i : ℕ). execute (control_word (decoded_op i) s.t) s v.words) h.2 ∙ x)
       (row_runs (omega arith) k)
 
 stays : (r : Outcome) → and_then r (steps table 0) ≡ r
