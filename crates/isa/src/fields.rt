@@ -2,6 +2,31 @@
 ghost use Rattle.std.specs.Prelude.{◌≡◌, ◌^◌, ◌<◌};
 ghost use Rattle.isa.specs.Fields as fields;
 
+// The fields of five bits: the operation's code and the three register numbers.
+#[derive(Clone, Copy, Debug, PartialEq, Eq)]
+pub enum Field {
+    Op,
+    Ra,
+    Rb,
+    Rc,
+}
+
+impl Field {
+    // The field's number in the word.
+    #[inline]
+    pub fn of(self, word: u32) -> u8
+        ensures value { result ≡ fields.field_of self word }
+        ensures bound { result < 32 }
+    {
+        match self {
+            Field::Op => register(word, 27),
+            Field::Ra => register(word, 22),
+            Field::Rb => register(word, 17),
+            Field::Rc => register(word, 12),
+        }
+    }
+}
+
 // The `width` bits of the word from bit `low` on.
 pub(crate) fn bits(word: u32, low: u32, width: u32) -> u32
     requires { (low < 32) × (width < 32) }
