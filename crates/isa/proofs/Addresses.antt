@@ -1,5 +1,5 @@
 -- The address that a word names is told by its instruction. Assumes nothing.
-use Rattle.std.proofs.Common.{◌≡◌, ℕ, eqb, true, false, cond, ℤ, pos, negsuc, List, [], get_or, Some, None, Option, sym, refl, ap, ◌∙◌, subst, arith}
+use Rattle.std.proofs.Common.{◌≡◌, ℕ, eqb, true, false, cond, ℤ, pos, negsuc, List, [], get_or, Some, None, Option, sym, refl, ap, ◌∙◌, arith}
 use Rattle.std.proofs.lemmas.Bool.{cond_both}
 use Rattle.std.proofs.lemmas.Int.{to_z-of_z}
 use mir.Syntax.{w32}

@@ -1,4 +1,4 @@
-use Rattle.std.proofs.Common.{◌≡◌, refl, sym, ap, ◌∙◌, Some, rules, get_or}
+use Rattle.std.proofs.Common.{refl, sym, ap, ◌∙◌, Some, rules, get_or}
 use mir.Val.{SFits}
 use mir.Syntax.{w32}
 use Rattle.isa.specs.Arithmetic.{plus}
