@@ -1,2 +1,3 @@
 mod Addresses
+mod Digits
 mod Encoding

@@ -1,5 +1,7 @@
 -- The fields of an instruction word of 32 bits; bit 0 is the lowest. Assumes nothing.
 use Rattle.std.specs.Prelude.{ℕ, ◌-◌, ◌/◌, ◌%◌, ◌^◌, cond, ℤ, pos, negsuc, nat_lt}
+use Rattle.isa.specs.declared.fields.Field.{Field}
+use Rattle.isa.specs.declared.fields.Field.TheVariants.{Op, Ra, Rb, Rc}
 
 -- so many bits of w, from the bit low on
 abbrev pub bits : ℕ → ℕ → ℕ → ℕ
@@ -27,6 +29,13 @@ rb_of w = bits 17 5 w
 
 abbrev pub rc_of : ℕ → ℕ
 rc_of w = bits 12 5 w
+
+-- the field of that name
+abbrev pub field_of : Field → ℕ → ℕ
+field_of Op w = op_of w
+field_of Ra w = ra_of w
+field_of Rb w = rb_of w
+field_of Rc w = rc_of w
 
 -- the constants: bits 21 to 0 and 16 to 0, sign extended
 abbrev pub c1_of : ℕ → ℤ

@@ -4,7 +4,7 @@ ghost use Rattle.isa.specs.Fields.{ra_of, rb_of, rc_of, c1_of, c2_of, count_of, 
 ghost use Rattle.isa.specs.Instructions.{decoded, shift_instruction};
 ghost use Rattle.isa.specs.declared.instruction.Instruction.TheVariants as i;
 
-use crate::fields::{extended, register};
+use crate::fields::{Field, c1, c2};
 use crate::instruction::Instruction;
 use crate::operation::{Binary, Immediate, Shift, Transfer, Unary};
 
@@ -12,8 +12,8 @@ use crate::operation::{Binary, Immediate, Shift, Transfer, Unary};
 pub fn decode(word: u32) -> Option<Instruction>
     ensures { result ≡ decoded word }
 {
-    let rb = register(word, 17);
-    match register(word, 27) {
+    let rb = Field::Rb.of(word);
+    match Field::Op.of(word) {
         0 => Some(Instruction::Nop),
         1 if rb == 0 => Some(direct(Transfer::Load, word)),
         1 => Some(indexed(Transfer::Load, word)),
@@ -49,8 +49,8 @@ fn direct(op: Transfer, word: u32) -> Instruction
 {
     Instruction::Direct {
         op,
-        ra: register(word, 22),
-        c2: extended(word, 17),
+        ra: Field::Ra.of(word),
+        c2: c2(word),
     }
 }
 
@@ -59,9 +59,9 @@ fn indexed(op: Transfer, word: u32) -> Instruction
 {
     Instruction::Indexed {
         op,
-        ra: register(word, 22),
-        rb: register(word, 17),
-        c2: extended(word, 17),
+        ra: Field::Ra.of(word),
+        rb: Field::Rb.of(word),
+        c2: c2(word),
     }
 }
 
@@ -70,8 +70,8 @@ fn relative(op: Transfer, word: u32) -> Instruction
 {
     Instruction::Relative {
         op,
-        ra: register(word, 22),
-        c1: extended(word, 22),
+        ra: Field::Ra.of(word),
+        c1: c1(word),
     }
 }
 
@@ -79,8 +79,8 @@ fn branch(word: u32) -> Instruction
     ensures { result ≡ i.Branch (rb_of word) (rc_of word) (when_of word) }
 {
     Instruction::Branch {
-        rb: register(word, 17),
-        rc: register(word, 12),
+        rb: Field::Rb.of(word),
+        rc: Field::Rc.of(word),
         when: (word % 8) as u8,
     }
 }
@@ -89,9 +89,9 @@ fn branch_link(word: u32) -> Instruction
     ensures { result ≡ i.BranchLink (ra_of word) (rb_of word) (rc_of word) (when_of word) }
 {
     Instruction::BranchLink {
-        ra: register(word, 22),
-        rb: register(word, 17),
-        rc: register(word, 12),
+        ra: Field::Ra.of(word),
+        rb: Field::Rb.of(word),
+        rc: Field::Rc.of(word),
         when: (word % 8) as u8,
     }
 }
@@ -101,9 +101,9 @@ fn binary(op: Binary, word: u32) -> Instruction
 {
     Instruction::Binary {
         op,
-        ra: register(word, 22),
-        rb: register(word, 17),
-        rc: register(word, 12),
+        ra: Field::Ra.of(word),
+        rb: Field::Rb.of(word),
+        rc: Field::Rc.of(word),
     }
 }
 
@@ -112,9 +112,9 @@ fn immediate(op: Immediate, word: u32) -> Instruction
 {
     Instruction::Immediate {
         op,
-        ra: register(word, 22),
-        rb: register(word, 17),
-        c2: extended(word, 17),
+        ra: Field::Ra.of(word),
+        rb: Field::Rb.of(word),
+        c2: c2(word),
     }
 }
 
@@ -123,8 +123,8 @@ fn unary(op: Unary, word: u32) -> Instruction
 {
     Instruction::Unary {
         op,
-        ra: register(word, 22),
-        rc: register(word, 12),
+        ra: Field::Ra.of(word),
+        rc: Field::Rc.of(word),
     }
 }
 
@@ -132,14 +132,14 @@ fn unary(op: Unary, word: u32) -> Instruction
 fn shift(op: Shift, word: u32) -> Instruction
     ensures { result ≡ shift_instruction op word }
 {
-    let ra = register(word, 22);
-    let rb = register(word, 17);
-    match register(word, 0) {
+    let ra = Field::Ra.of(word);
+    let rb = Field::Rb.of(word);
+    match (word % 32) as u8 {
         0 => Instruction::ShiftByRegister {
             op,
             ra,
             rb,
-            rc: register(word, 12),
+            rc: Field::Rc.of(word),
         },
         places => Instruction::ShiftBy { op, ra, rb, places },
     }

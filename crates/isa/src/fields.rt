@@ -1,28 +1,38 @@
 // The fields of an instruction word.
-ghost use Rattle.std.specs.Prelude.{◌≡◌, ◌^◌, ◌<◌};
+ghost use Rattle.std.specs.Prelude.{◌≡◌, ◌<◌};
 ghost use Rattle.isa.specs.Fields as fields;
 
-// The `width` bits of the word from bit `low` on.
-pub(crate) fn bits(word: u32, low: u32, width: u32) -> u32
-    requires { (low < 32) × (width < 32) }
-    ensures value { result ≡ fields.bits low width word }
-    ensures bound { result < 2 ^ width }
-{
-    (word >> low) & ((1 << width) - 1)
+// The fields of five bits: the operation's code and the three register numbers.
+#[derive(Clone, Copy, Debug, PartialEq, Eq)]
+pub enum Field {
+    Op,
+    Ra,
+    Rb,
+    Rc,
 }
 
-// The register number in the five bits from bit `low` on.
-pub(crate) fn register(word: u32, low: u32) -> u8
-    requires { low < 32 }
-    ensures value { result ≡ fields.bits low 5 word }
-    ensures bound { result < 32 }
-{
-    bits(word, low, 5) as u8
+impl Field {
+    // The field's number in the word.
+    #[inline]
+    pub fn of(self, word: u32) -> u8
+        ensures value { result ≡ fields.field_of self word }
+        ensures bound { result < 32 }
+    {
+        let low = match self {
+            Field::Op => 27,
+            Field::Ra => 22,
+            Field::Rb => 17,
+            Field::Rc => 12,
+        };
+        ((word >> low) % 32) as u8
+    }
 }
 
 // The low `width` bits, as a signed number.
-pub(crate) fn extended(word: u32, width: u32) -> i32
-    requires { (0 < width) × (width < 31) }
+#[inline]
+fn extended(word: u32, width: u32) -> i32
+    requires sign_bit { 0 < width }
+    requires narrow { width < 31 }
     ensures { result ≡ fields.extended width word }
 {
     let value = word % (1 << width);
@@ -31,4 +41,36 @@ pub(crate) fn extended(word: u32, width: u32) -> i32
     } else {
         value as i32 - (1 << width)
     }
+}
+
+// The constant c1 of the word.
+#[inline]
+pub(crate) fn c1(word: u32) -> i32
+    ensures { result ≡ fields.c1_of word }
+{
+    extended(word, 22)
+}
+
+// The constant c2 of the word.
+#[inline]
+pub(crate) fn c2(word: u32) -> i32
+    ensures { result ≡ fields.c2_of word }
+{
+    extended(word, 17)
+}
+
+// The constant c1 of the word, sign extended to a word.
+#[inline]
+pub fn c1_word(word: u32) -> u32
+    ensures { result ≡ fields.word_of (fields.c1_of word) }
+{
+    c1(word).cast_unsigned()
+}
+
+// The constant c2 of the word, sign extended to a word.
+#[inline]
+pub fn c2_word(word: u32) -> u32
+    ensures { result ≡ fields.word_of (fields.c2_of word) }
+{
+    c2(word).cast_unsigned()
 }

@@ -11,9 +11,10 @@ mod operation;
 mod stray;
 mod text;
 
-pub use addressing::{address, c1_word, c2_word, condition};
+pub use addressing::{address, condition};
 pub use decoder::decode;
 pub use entry::Entry;
+pub use fields::{Field, c1_word, c2_word};
 pub use instruction::Instruction;
 pub use line::{Hex, Line, line_text};
 pub use operation::{Binary, Immediate, Shift, Transfer, Unary};

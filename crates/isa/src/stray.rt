@@ -1,30 +1,24 @@
 // Bits that no field of an instruction's line shows.
-ghost use Rattle.std.specs.Prelude.{◌≡◌, ◌<◌};
-ghost use Rattle.isa.specs.Instructions.{set_in, stray as stray_of};
+ghost use Rattle.std.specs.Prelude.{◌≡◌};
+ghost use Rattle.isa.specs.Instructions.{stray as stray_of};
 
-use crate::fields::bits;
+use crate::fields::Field;
 use crate::instruction::Instruction;
-
-// Whether one of the `width` bits from bit `low` on is set.
-fn any(word: u32, low: u32, width: u32) -> bool
-    requires { (low < 32) × (width < 32) }
-    ensures { result ≡ set_in low width word }
-{
-    bits(word, low, width) != 0
-}
 
 // Whether a bit is set in the word that its instruction does not show.
 pub(crate) fn stray(instruction: Instruction, word: u32) -> bool
     ensures { result ≡ stray_of instruction word }
 {
+    // A branch shows the low three bits of c3, and a shift the low five.
+    let c3 = word % (1 << 12);
     match instruction {
-        Instruction::Nop | Instruction::Stop => any(word, 0, 27),
-        Instruction::Branch { .. } => any(word, 22, 5) || any(word, 3, 9),
-        Instruction::BranchLink { .. } => any(word, 3, 9),
-        Instruction::Binary { .. } => any(word, 0, 12),
-        Instruction::Unary { .. } => any(word, 17, 5) || any(word, 0, 12),
-        Instruction::ShiftBy { .. } => any(word, 12, 5) || any(word, 5, 7),
-        Instruction::ShiftByRegister { .. } => any(word, 5, 7),
+        Instruction::Nop | Instruction::Stop => word % (1 << 27) != 0,
+        Instruction::Branch { .. } => Field::Ra.of(word) != 0 || c3 >> 3 != 0,
+        Instruction::BranchLink { .. } => c3 >> 3 != 0,
+        Instruction::Binary { .. } => c3 != 0,
+        Instruction::Unary { .. } => Field::Rb.of(word) != 0 || c3 != 0,
+        Instruction::ShiftBy { .. } => Field::Rc.of(word) != 0 || c3 >> 5 != 0,
+        Instruction::ShiftByRegister { .. } => c3 >> 5 != 0,
         Instruction::Direct { .. }
         | Instruction::Indexed { .. }
         | Instruction::Relative { .. }

@@ -1,70 +1,69 @@
 // Instructions as text.
-ghost use Rattle.std.specs.Prelude.{◌≡◌, Some};
-ghost use Rattle.isa.specs.Lines as lines;
-ghost use Rattle.isa.specs.Lines.{text_of};
+ghost use Rattle.std.specs.Prelude.{Some};
+ghost use Rattle.isa.specs.Lines.{transfer_name, binary_name, immediate_name, unary_name, shift_name, text_of};
 
 use crate::instruction::Instruction;
 use crate::operation::{Binary, Immediate, Shift, Transfer, Unary};
 use std::fmt;
 
-fn transfer_name(op: Transfer) -> &'static str
-    ensures { result.now ≡ lines.transfer_name op }
-{
-    match op {
-        Transfer::Load => "ld",
-        Transfer::Store => "st",
-        Transfer::Address => "la",
+impl fmt::Display for Transfer {
+    ghost output = { λ op. Some (transfer_name op) };
+
+    fn fmt<W: fmt::Write>(&self, f: &mut fmt::Formatter<W>) -> fmt::Result {
+        f.write_str(match self {
+            Transfer::Load => "ld",
+            Transfer::Store => "st",
+            Transfer::Address => "la",
+        })
     }
 }
 
-fn relative_name(op: Transfer) -> &'static str
-    ensures { result.now ≡ lines.relative_name op }
-{
-    match op {
-        Transfer::Load => "ldr",
-        Transfer::Store => "str",
-        Transfer::Address => "lar",
+impl fmt::Display for Binary {
+    ghost output = { λ op. Some (binary_name op) };
+
+    fn fmt<W: fmt::Write>(&self, f: &mut fmt::Formatter<W>) -> fmt::Result {
+        f.write_str(match self {
+            Binary::Add => "add",
+            Binary::Sub => "sub",
+            Binary::And => "and",
+            Binary::Or => "or",
+        })
     }
 }
 
-fn binary_name(op: Binary) -> &'static str
-    ensures { result.now ≡ lines.binary_name op }
-{
-    match op {
-        Binary::Add => "add",
-        Binary::Sub => "sub",
-        Binary::And => "and",
-        Binary::Or => "or",
+impl fmt::Display for Immediate {
+    ghost output = { λ op. Some (immediate_name op) };
+
+    fn fmt<W: fmt::Write>(&self, f: &mut fmt::Formatter<W>) -> fmt::Result {
+        f.write_str(match self {
+            Immediate::Addi => "addi",
+            Immediate::Andi => "andi",
+            Immediate::Ori => "ori",
+        })
     }
 }
 
-fn immediate_name(op: Immediate) -> &'static str
-    ensures { result.now ≡ lines.immediate_name op }
-{
-    match op {
-        Immediate::Addi => "addi",
-        Immediate::Andi => "andi",
-        Immediate::Ori => "ori",
+impl fmt::Display for Unary {
+    ghost output = { λ op. Some (unary_name op) };
+
+    fn fmt<W: fmt::Write>(&self, f: &mut fmt::Formatter<W>) -> fmt::Result {
+        f.write_str(match self {
+            Unary::Neg => "neg",
+            Unary::Not => "not",
+        })
     }
 }
 
-fn unary_name(op: Unary) -> &'static str
-    ensures { result.now ≡ lines.unary_name op }
-{
-    match op {
-        Unary::Neg => "neg",
-        Unary::Not => "not",
-    }
-}
+impl fmt::Display for Shift {
+    ghost output = { λ op. Some (shift_name op) };
 
-fn shift_name(op: Shift) -> &'static str
-    ensures { result.now ≡ lines.shift_name op }
-{
-    match op {
-        Shift::Shr => "shr",
-        Shift::Shra => "shra",
-        Shift::Shl => "shl",
-        Shift::Shc => "shc",
+    fn fmt<W: fmt::Write>(&self, f: &mut fmt::Formatter<W>) -> fmt::Result {
+        f.write_str(match self {
+            Shift::Shr => "shr",
+            Shift::Shra => "shra",
+            Shift::Shl => "shl",
+            Shift::Shc => "shc",
+        })
     }
 }
 
@@ -75,29 +74,19 @@ impl fmt::Display for Instruction {
         match *self {
             Instruction::Nop => f.write_str("nop"),
             Instruction::Stop => f.write_str("stop"),
-            Instruction::Direct { op, ra, c2 } => { write!(f, "{} r{ra}, {c2}", transfer_name(op)) }
-            Instruction::Indexed { op, ra, rb, c2 } => {
-                write!(f, "{} r{ra}, {c2}(r{rb})", transfer_name(op))
-            }
-            Instruction::Relative { op, ra, c1 } => {
-                write!(f, "{} r{ra}, {c1}", relative_name(op))
-            }
+            Instruction::Direct { op, ra, c2 } => write!(f, "{op} r{ra}, {c2}"),
+            Instruction::Indexed { op, ra, rb, c2 } => write!(f, "{op} r{ra}, {c2}(r{rb})"),
+            Instruction::Relative { op, ra, c1 } => write!(f, "{op}r r{ra}, {c1}"),
             Instruction::Branch { rb, rc, when } => write!(f, "br r{rb}, r{rc}, {when}"),
             Instruction::BranchLink { ra, rb, rc, when } => {
                 write!(f, "brl r{ra}, r{rb}, r{rc}, {when}")
             }
-            Instruction::Binary { op, ra, rb, rc } => {
-                write!(f, "{} r{ra}, r{rb}, r{rc}", binary_name(op))
-            }
-            Instruction::Immediate { op, ra, rb, c2 } => {
-                write!(f, "{} r{ra}, r{rb}, {c2}", immediate_name(op))
-            }
-            Instruction::Unary { op, ra, rc } => write!(f, "{} r{ra}, r{rc}", unary_name(op)),
-            Instruction::ShiftBy { op, ra, rb, places } => {
-                write!(f, "{} r{ra}, r{rb}, {places}", shift_name(op))
-            }
+            Instruction::Binary { op, ra, rb, rc } => write!(f, "{op} r{ra}, r{rb}, r{rc}"),
+            Instruction::Immediate { op, ra, rb, c2 } => write!(f, "{op} r{ra}, r{rb}, {c2}"),
+            Instruction::Unary { op, ra, rc } => write!(f, "{op} r{ra}, r{rc}"),
+            Instruction::ShiftBy { op, ra, rb, places } => write!(f, "{op} r{ra}, r{rb}, {places}"),
             Instruction::ShiftByRegister { op, ra, rb, rc } => {
-                write!(f, "{} r{ra}, r{rb}, r{rc}", shift_name(op))
+                write!(f, "{op} r{ra}, r{rb}, r{rc}")
             }
         }
     }

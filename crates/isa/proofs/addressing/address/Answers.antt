@@ -1,19 +1,24 @@
-use Rattle.std.proofs.Common.{get_or, Some, sym, ap, ◌∙◌}
+use Rattle.std.proofs.Common.{refl, sym, ap, ◌∙◌, Some, rules, get_or}
+use mir.Val.{SFits}
+use mir.Syntax.{w32}
 use Rattle.isa.specs.Arithmetic.{plus}
-use Rattle.isa.proofs.Addresses.{direct, indexed, beside}
+use Rattle.isa.proofs.Addresses.{as_word, names, names_none}
 use Rattle.isa.proofs.addressing.address.Goals as goal
 
-pub returns-in-1 : goal.returns-in-1
-returns-in-1 c =
-    ap Some c.c2_word.ensures
-    ∙ sym (direct c.args.word c.args.pc c.args.registers.now c.register.result c.register.ensures.value c.in-1.is c.register-rb.result c.register-rb.ensures.value c.if-rb-eq0.true)
+pub returns-in-Direct : goal.returns-in-Direct
+returns-in-Direct c =
+    let f : SFits w32 c.in-Direct.c2 = search rules in
+    ap Some (c.cast_unsigned.ensures ∙ as_word _ f) ∙ names c.args.pc c.args.registers.now c.args.word _ _ c.in_ok-c2.ensures c.in-Direct.is
 
-pub returns-in-1-2 : goal.returns-in-1-2
-returns-in-1-2 c =
-    ap (λ x. Some (plus (get_or c.args.registers.now c.register-rb.result 0) x)) c.c2_word-in-1-2.ensures
-    ∙ sym (indexed c.args.word c.args.pc c.args.registers.now c.register.result c.register.ensures.value c.in-1.is c.register-rb.result c.register-rb.ensures.value c.if-rb-eq0.false)
+pub returns-in-Indexed : goal.returns-in-Indexed
+returns-in-Indexed c =
+    let f : SFits w32 c.in-Indexed.c2 = search rules in
+    ap (λ x. Some (plus (get_or c.args.registers.now c.in-Indexed.rb 0) x)) (c.cast_unsigned-in-Indexed.ensures ∙ as_word _ f) ∙ names c.args.pc c.args.registers.now c.args.word _ _ c.in_ok-c2.ensures c.in-Indexed.is
 
-pub returns-in-2 : goal.returns-in-2
-returns-in-2 c =
-    ap (λ x. Some (plus c.args.pc x)) c.c1_word.ensures
-    ∙ sym (beside c.args.word c.args.pc c.args.registers.now c.register.result c.register.ensures.value c.in-2.is)
+pub returns-in-Relative : goal.returns-in-Relative
+returns-in-Relative c =
+    let f : SFits w32 c.in-Relative.c1 = search rules in
+    ap (λ x. Some (plus c.args.pc x)) (c.cast_unsigned-in-Relative.ensures ∙ as_word _ f) ∙ names c.args.pc c.args.registers.now c.args.word _ _ c.in_ok-c2.ensures c.in-Relative.is
+
+pub returns-in_default : goal.returns-in_default
+returns-in_default c = sym (names_none c.args.pc c.args.registers.now _ c.in_default.not-Direct c.in_default.not-Indexed c.in_default.not-Relative) ∙ names c.args.pc c.args.registers.now c.args.word _ _ c.in_ok-c2.ensures refl
