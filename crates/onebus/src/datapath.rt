@@ -6,7 +6,6 @@ ghost use Rattle.isa.specs.declared.operation.Shift.TheVariants as by_places;
 ghost use Rattle.rows.specs.Core.{selected, from_instruction, bus as bus_of, shifter as shifter_of, alu as alu_of, up, stored};
 ghost use Rattle.rows.specs.declared.signal.Signal.TheVariants.{PcIn, ConPcIn, CIn, ConIn, Ld, Decr, Goto6, End};
 ghost use Rattle.rows.specs.Signals.{gives};
-ghost use Rattle.onebus.specs.View.{core_of};
 
 use crate::control::ControlWord;
 use crate::register_set::Core;
@@ -136,7 +135,7 @@ impl Core {
 
     /// What IR puts on the bus: a register that it selects, or a constant.
     fn from_instruction(&self, word: ControlWord) -> u32
-        ensures { result ≡ from_instruction word.0 (core_of self.now) }
+        ensures { result ≡ from_instruction word.0 self.now }
     {
         if word.has(Signal::ROut) {
             self.regs[self.selected(word)]
@@ -154,7 +153,7 @@ impl Core {
 
     /// What is on the bus.
     pub(crate) fn bus(&self, word: ControlWord) -> u32
-        ensures { result ≡ bus_of word.0 (core_of self.now) }
+        ensures { result ≡ bus_of word.0 self.now }
     {
         if word.has(Signal::PcOut) {
             self.pc
@@ -228,7 +227,7 @@ impl Core {
 
     /// Stores what the step's signals ask for: every right side is read before a left side is written.
     pub(crate) fn store(&mut self, word: ControlWord, bus: u32, held: u32)
-        ensures { core_of self.new ≡ stored word.0 bus held (core_of self.old) }
+        ensures { self.new ≡ stored word.0 bus held self.old }
     {
         let selected = self.selected(word);
         let pc = self.next_pc(word, bus);

@@ -2,7 +2,6 @@
 ghost use Rattle.std.specs.Prelude.{◌≡◌, ℕ, ◌/◌, ◌%◌, if◌then◌else◌, Some, None, ◌==◌, nat_lt, slice_index};
 ghost use Rattle.rows.specs.Rows.{table};
 ghost use Rattle.rows.specs.Core.{waits};
-ghost use Rattle.onebus.specs.View.{core_of};
 
 use crate::register_set::Core;
 use rows::Signal;
@@ -30,7 +29,7 @@ impl Core {
 
     /// Is the step at hand a Wait step?
     pub fn is_wait_step(&self) -> bool
-        ensures { result ≡ waits table (core_of self.now) }
+        ensures { result ≡ waits table self.now }
     {
         let word = self.control_word();
         word.has(Signal::Wait) && word.allows(self.n)
