@@ -18,8 +18,8 @@ seen k = record {
   t = k.t;
 }
 
--- what every core keeps: the count n has five bits, the step three, and each register 32
-pub record Fits (k : Inside) : Type 0 where
+-- what every core meets: the count n has five bits, the step three, and each register 32
+pub record Fits (k : model.Core) : Type 0 where
   pub count : k.n < 32
   pub step : k.t < 8
   pub small : (i : ℕ) → slice_index k.regs i < 2 ^ 32

@@ -26,5 +26,5 @@ impl Model for Core {
 
     ghost view = { seen };
 
-    ghost invariant = { Fits };
+    ghost invariant = { λ k. Fits (seen k) };
 }

@@ -5,11 +5,12 @@ ghost use Rattle.rows.specs.Core.{bus, stored, at_step, rowless, control_at};
 ghost use Rattle.onebus.specs.Steps.{progress_of, Reads, Writes, Accesses, Stepped};
 
 use crate::control::ControlWord;
-use crate::datapath::{op, raised};
+use crate::datapath::raised;
 use crate::fault::{Cause, CoreFault};
 use crate::microcode::control_store;
 use crate::progress::Progress;
 use crate::register_set::Core;
+use isa::Field;
 use memory::Memory;
 use rows::Signal;
 
@@ -18,7 +19,7 @@ impl Core {
     pub fn control_word(&self) -> ControlWord
         ensures { result.0 ≡ control_at table self.now }
     {
-        ControlWord(control_store()[op(self.ir) * 8 + self.t as usize])
+        ControlWord(control_store()[Field::Op.of(self.ir) as usize * 8 + self.t as usize])
     }
 
     /// Has the operation no row? Its control word in T3 is empty.
