@@ -12,29 +12,6 @@ use crate::register_set::Core;
 use isa::{Field, c1_word, c2_word, condition};
 use rows::Signal;
 
-fn sign(x: u32) -> bool
-    ensures { result ≡ sign_of x }
-{
-    (x >> 31) % 2 == 1
-}
-
-/// A shift by one place with the sign kept, and one around to the left.
-fn shra_once(x: u32) -> u32
-    ensures { result ≡ shifted_once by_places.Shra x }
-{
-    if sign(x) {
-        (x >> 1) + 0x8000_0000
-    } else {
-        x >> 1
-    }
-}
-
-fn shc_once(x: u32) -> u32
-    ensures { result ≡ shifted_once by_places.Shc x }
-{
-    (x << 1) + (x >> 31)
-}
-
 /// A register takes the new value where it is enabled.
 fn latch(enabled: bool, new: u32, old: u32) -> u32
     ensures { result ≡ (if enabled then new else old) }
@@ -57,11 +34,11 @@ fn shifter(word: ControlWord, b: u32) -> u32
     if word.has(Signal::Shr) {
         b >> 1
     } else if word.has(Signal::Shra) {
-        shra_once(b)
+        (b.cast_signed() >> 1).cast_unsigned()
     } else if word.has(Signal::Shl) {
         b << 1
     } else if word.has(Signal::Shc) {
-        shc_once(b)
+        b.rotate_left(1)
     } else {
         0
     }

@@ -1,6 +1,6 @@
 // Our control store: the control word of each operation at each step.
 ghost use Rattle.std.specs.Prelude.{◌≡◌};
-ghost use Rattle.rows.specs.Rows.{blocks, table};
+ghost use Rattle.rows.specs.Rows.{table};
 ghost use Rattle.onebus.specs.Words.{word_in_store};
 
 use crate::control::ControlWord;
@@ -153,27 +153,17 @@ static CONTROL_STORE: [u64; 256] = [
     FETCH, FETCH_READ, FETCHED, STOPPED, NONE, NONE, NONE, NONE,
 ];
 
-/// The array, word by word that of the rows.
-fn words() -> &'static [u64; 256]
-    ensures { result.now ≡ blocks 32 0 }
-{
-    &CONTROL_STORE
-}
-
 /// The 256 control words, by code * 8 + step.
 pub fn control_store() -> &'static [u64; 256]
     ensures { result.now ≡ table }
 {
-    words()
+    &CONTROL_STORE
 }
 
 /// The control word of a code at a step, where there are such a code and step.
 pub fn control_word(code: u8, step: u8) -> Option<ControlWord>
     ensures { result ≡ word_in_store code step }
 {
-    if code < 32 && step < 8 {
-        Some(ControlWord(control_store()[code as usize * 8 + step as usize]))
-    } else {
-        None
-    }
+    (code < 32 && step < 8)
+        .then(|| ControlWord(control_store()[code as usize * 8 + step as usize]))
 }

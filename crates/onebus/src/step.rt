@@ -34,7 +34,7 @@ impl Core {
         ensures { Reads M.Memory word.0 self.now memory.old result memory.new }
     {
         if word.has(Signal::Read) {
-            Ok(memory.read(self.ma / 4)?)
+            Ok(memory.read(self.word_number())?)
         } else {
             Ok(self.md)
         }
@@ -45,7 +45,7 @@ impl Core {
         ensures { Writes M.Memory word.0 self.now memory.old result memory.new }
     {
         if word.has(Signal::Write) {
-            memory.write(self.ma / 4, self.md)?;
+            memory.write(self.word_number(), self.md)?;
         }
         Ok(())
     }
@@ -57,7 +57,7 @@ impl Core {
         if !word.touches_memory() {
             return Ok(self.md);
         }
-        if self.ma % 4 != 0 {
+        if !self.is_aligned() {
             return Err(Cause::Unaligned);
         }
         let held = self.read_word(word, memory)?;
@@ -104,6 +104,7 @@ impl Core {
             self.t = raised(self.t);
             return Ok(Progress::Within);
         }
+        // Kept: `map_err` does not say that a closure over the core which it never calls leaves it as it was.
         match self.access(word, memory) {
             Ok(held) => Ok(self.carry_out(word, held)),
             Err(cause) => Err(self.fail(cause)),
