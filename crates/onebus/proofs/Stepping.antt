@@ -35,21 +35,6 @@ abbrev or_unassigned : {X : Type 0} → Result X Cause → Cause
 or_unassigned (Ok x) = Unassigned
 or_unassigned (Err e) = e
 
-abbrev or_fault : MemoryFault → Result (Unit {0}) MemoryFault → MemoryFault
-or_fault d (Ok x) = d
-or_fault d (Err f) = f
-
-abbrev writing : Bool → Bool → List ℕ → ℕ → Result (Unit {0}) Cause
-writing u v ws n = cond u (cond v (Ok tt) (Err (NoWord (fault_of ws n)))) (Ok tt)
-
--- what the exit of a `?` returns
-pub refusal_is : (r : Result (Unit {0}) Cause) (e : Cause) → IsErrAnd r (λ (x : Cause). x ≡ e) → r ≡ Err e
-refusal_is r e h = let p = err_from_is_err_and r h in p.1 ∙ ap (λ (x : Cause). Err x) p.2
-
-and_false : (x y : Bool) → y ≡ false → x && y ≡ false
-and_false true y e = e
-and_false false y e = refl
-
 told_closed : (b z : Bool) (t : ℕ) (s : model.Core) (us : List ℕ) → Ok (cond b (Finished z) Within) ≡ answer_of t (closed b z s us)
 told_closed true z t s us = refl
 told_closed false z t s us = refl
@@ -70,27 +55,6 @@ allowed_as w k ws p q =
     by : (b : Bool) → addressed b w k ws ≡ allowed (cond b (access k.ma (length ws)) fit) k ws (carried_out w k ws)
     by true = refl
     by false = refl
-
--- a write that the memory refuses, whatever was to be written
-module _ {S : Type 0} (g : Ghosts S) (w : ℕ) (k : model.Core) (m m' : S) where
-  pub refused_write : (x : ℕ) (f : MemoryFault) (e : Cause) → gives w Write ≡ true → e ≡ NoWord f → Written g.words g.delay g.frame m (k.ma / 4) x (Err f) m' → Writes g w k m (Err e) m'
-  refused_write x f e t q s = by (ltb (k.ma / 4) (length (g.words m))) refl
-    where
-      by : (b : Bool) → ltb (k.ma / 4) (length (g.words m)) ≡ b → Writes g w k m (Err e) m'
-      by true i = absurd (subst Refusal (s.answer ∙ ap (λ (b : Bool). cond b (Ok tt) (Err (fault_of (g.words m) (k.ma / 4)))) i) tt)
-      by false i =
-          let ws : List ℕ = g.words m in
-          let is : f ≡ fault_of ws (k.ma / 4) = ap (or_fault f) (s.answer ∙ ap (λ (b : Bool). cond b (Ok tt) (Err (fault_of ws (k.ma / 4)))) i) in
-          let past : length ws ≤ k.ma / 4 = ltb-false (k.ma / 4) (length ws) i in
-          let no : gives w Write && ltb (k.ma / 4) (length ws) ≡ false = and_false (gives w Write) _ i in
-          record {
-            answer =
-                ap (λ (y : Cause). Err y) (q ∙ ap (λ (y : MemoryFault). NoWord y) is)
-                ∙ sym (ap (λ (b : Bool). writing b (ltb (k.ma / 4) (length ws)) ws (k.ma / 4)) t ∙ ap (λ (b : Bool). writing true b ws (k.ma / 4)) i);
-            words = s.word_set ∙ set_past ws (k.ma / 4) x past ∙ sym (ap (λ (b : Bool). cond b (set ws (k.ma / 4) k.md) ws) no);
-            delays = λ z. s.refused_kept past;
-            frame = s.frame_kept;
-          }
 
 module _ {S : Type 0} (g : Ghosts S) (w : ℕ) (k k' : model.Core) (m m' : S) (here : rowless w k.t ≡ false) (now : met w k.n ≡ true) where
   done_as : (x : Access) → access_of w k (g.words m) ≡ x → execute w k (g.words m) ≡ allowed x k (g.words m) (carried_out w k (g.words m))

@@ -1,10 +1,11 @@
--- The core of the code as the core of the definitions. Assumes nothing.
-use Rattle.std.specs.Prelude.{ℕ, false, List, replicate, slice_set}
+-- How a core is seen, and what setting it does. Assumes nothing.
+use Rattle.std.specs.Prelude.{ℕ, ◌^◌, ◌<◌, false, List, replicate, slice_index, slice_set}
 use Rattle.rows.specs.Core as model
-use Rattle.onebus.specs.declared.register_set.Core.{Core}
+use Rattle.onebus.specs.declared.register_set.Core.TheInside.{Inside}
 
-abbrev pub core_of : Core → model.Core
-core_of k = record {
+-- the core of the definitions that has the registers of the code
+abbrev pub seen : Inside → model.Core
+seen k = record {
   pc = k.pc;
   regs = k.regs;
   ir = k.ir;
@@ -16,6 +17,12 @@ core_of k = record {
   con = k.con;
   t = k.t;
 }
+
+-- what every core meets: the count n has five bits, the step three, and each register 32
+pub record Fits (k : model.Core) : Type 0 where
+  pub count : k.n < 32
+  pub step : k.t < 8
+  pub small : (i : ℕ) → slice_index k.regs i < 2 ^ 32
 
 -- all registers 0
 abbrev pub zeroed : model.Core

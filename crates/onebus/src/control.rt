@@ -8,12 +8,13 @@ use crate::progress::Progress;
 use rows::Signal;
 
 /// The signals of one step, each a bit in the order of `Signal`.
-#[derive(Clone, Copy)]
+#[derive(Clone, Copy, Debug, PartialEq, Eq)]
 pub struct ControlWord(pub u64);
 
 /// The signal's bit.
 fn bit(signal: Signal) -> u32
-    ensures { (result ≡ bit_of signal) × (result < 41) }
+    ensures value { result ≡ bit_of signal }
+    ensures bound { result < 41 }
 {
     signal as u32
 }

@@ -1,66 +1,16 @@
 // The bus, the ALU and the registers of one step.
 ghost use Rattle.std.specs.Prelude.{◌≡◌, ℕ, ◌+◌, ◌%◌, ◌^◌, ◌<◌, if◌then◌else◌};
-ghost use Rattle.isa.specs.Fields.{op_of, ra_of, rb_of, rc_of, when_of};
+ghost use Rattle.isa.specs.Fields.{when_of};
 ghost use Rattle.isa.specs.Arithmetic.{binary_result, unary_result, shifted_once, sign as sign_of, condition as condition_of};
 ghost use Rattle.isa.specs.declared.operation.Shift.TheVariants as by_places;
 ghost use Rattle.rows.specs.Core.{selected, from_instruction, bus as bus_of, shifter as shifter_of, alu as alu_of, up, stored};
 ghost use Rattle.rows.specs.declared.signal.Signal.TheVariants.{PcIn, ConPcIn, CIn, ConIn, Ld, Decr, Goto6, End};
 ghost use Rattle.rows.specs.Signals.{gives};
-ghost use Rattle.onebus.specs.View.{core_of};
 
 use crate::control::ControlWord;
 use crate::register_set::Core;
-use isa::{c1_word, c2_word, condition};
+use isa::{Field, c1_word, c2_word, condition};
 use rows::Signal;
-
-/// The code of an instruction word's operation.
-pub(crate) fn op(word: u32) -> usize
-    ensures { (result ≡ op_of word) × (result < 32) }
-{
-    ((word >> 27) % 32) as usize
-}
-
-/// The register fields of an instruction word.
-fn ra(word: u32) -> usize
-    ensures { (result ≡ ra_of word) × (result < 32) }
-{
-    ((word >> 22) % 32) as usize
-}
-
-fn rb(word: u32) -> usize
-    ensures { (result ≡ rb_of word) × (result < 32) }
-{
-    ((word >> 17) % 32) as usize
-}
-
-fn rc(word: u32) -> usize
-    ensures { (result ≡ rc_of word) × (result < 32) }
-{
-    ((word >> 12) % 32) as usize
-}
-
-fn sign(x: u32) -> bool
-    ensures { result ≡ sign_of x }
-{
-    (x >> 31) % 2 == 1
-}
-
-/// A shift by one place with the sign kept, and one around to the left.
-fn shra_once(x: u32) -> u32
-    ensures { result ≡ shifted_once by_places.Shra x }
-{
-    if sign(x) {
-        (x >> 1) + 0x8000_0000
-    } else {
-        x >> 1
-    }
-}
-
-fn shc_once(x: u32) -> u32
-    ensures { result ≡ shifted_once by_places.Shc x }
-{
-    (x << 1) + (x >> 31)
-}
 
 /// A register takes the new value where it is enabled.
 fn latch(enabled: bool, new: u32, old: u32) -> u32
@@ -71,7 +21,8 @@ fn latch(enabled: bool, new: u32, old: u32) -> u32
 
 /// The next step.
 pub(crate) fn raised(t: u8) -> u8
-    ensures { (result ≡ up t) × (result < 8) }
+    ensures value { result ≡ up t }
+    ensures bound { result < 8 }
 {
     if t < 7 { t + 1 } else { 7 }
 }
@@ -83,11 +34,11 @@ fn shifter(word: ControlWord, b: u32) -> u32
     if word.has(Signal::Shr) {
         b >> 1
     } else if word.has(Signal::Shra) {
-        shra_once(b)
+        (b.cast_signed() >> 1).cast_unsigned()
     } else if word.has(Signal::Shl) {
         b << 1
     } else if word.has(Signal::Shc) {
-        shc_once(b)
+        b.rotate_left(1)
     } else {
         0
     }
@@ -121,22 +72,24 @@ fn alu(word: ControlWord, a: u32, b: u32) -> u32
 impl Core {
     /// The number of the register that is selected.
     fn selected(&self, word: ControlWord) -> usize
-        ensures { (result ≡ selected word.0 self.now.ir) × (result < 32) }
+        ensures value { result ≡ selected word.0 self.now.ir }
+        ensures bound { result < 32 }
     {
-        if word.has(Signal::Gra) {
-            ra(self.ir)
+        let number = if word.has(Signal::Gra) {
+            Field::Ra.of(self.ir)
         } else if word.has(Signal::Grb) {
-            rb(self.ir)
+            Field::Rb.of(self.ir)
         } else if word.has(Signal::Grc) {
-            rc(self.ir)
+            Field::Rc.of(self.ir)
         } else {
             0
-        }
+        };
+        number as usize
     }
 
     /// What IR puts on the bus: a register that it selects, or a constant.
     fn from_instruction(&self, word: ControlWord) -> u32
-        ensures { result ≡ from_instruction word.0 (core_of self.now) }
+        ensures { result ≡ from_instruction word.0 self.now }
     {
         if word.has(Signal::ROut) {
             self.regs[self.selected(word)]
@@ -154,7 +107,7 @@ impl Core {
 
     /// What is on the bus.
     pub(crate) fn bus(&self, word: ControlWord) -> u32
-        ensures { result ≡ bus_of word.0 (core_of self.now) }
+        ensures { result ≡ bus_of word.0 self.now }
     {
         if word.has(Signal::PcOut) {
             self.pc
@@ -191,7 +144,8 @@ impl Core {
 
     /// The count n after the step: it counts down modulo 32.
     fn next_n(&self, word: ControlWord, bus: u32) -> u8
-        ensures { (result ≡ (if gives word.0 Ld then bus % 32 else (if gives word.0 Decr then (self.now.n + 31) % 32 else self.now.n))) × (result < 32) }
+        ensures value { result ≡ (if gives word.0 Ld then bus % 32 else (if gives word.0 Decr then (self.now.n + 31) % 32 else self.now.n)) }
+        ensures bound { result < 32 }
     {
         if word.has(Signal::Ld) {
             (bus % 32) as u8
@@ -215,7 +169,8 @@ impl Core {
 
     /// T after the step.
     fn next_t(&self, word: ControlWord) -> u8
-        ensures { (result ≡ (if gives word.0 Goto6 then 6 else (if gives word.0 End then 0 else up self.now.t))) × (result < 8) }
+        ensures value { result ≡ (if gives word.0 Goto6 then 6 else (if gives word.0 End then 0 else up self.now.t)) }
+        ensures bound { result < 8 }
     {
         if word.has(Signal::Goto6) {
             6
@@ -228,7 +183,7 @@ impl Core {
 
     /// Stores what the step's signals ask for: every right side is read before a left side is written.
     pub(crate) fn store(&mut self, word: ControlWord, bus: u32, held: u32)
-        ensures { core_of self.new ≡ stored word.0 bus held (core_of self.old) }
+        ensures { self.new ≡ stored word.0 bus held self.old }
     {
         let selected = self.selected(word);
         let pc = self.next_pc(word, bus);

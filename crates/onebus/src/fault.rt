@@ -7,7 +7,7 @@ use memory::MemoryFault;
 use std::fmt;
 
 /// The operation is unassigned, the address is no multiple of four, or the memory has no word of that number.
-#[derive(Clone, Copy)]
+#[derive(Clone, Copy, Debug, PartialEq, Eq)]
 pub enum Cause {
     Unassigned,
     Unaligned,
@@ -15,7 +15,7 @@ pub enum Cause {
 }
 
 /// A cause, the address and the step that told it.
-#[derive(Clone, Copy)]
+#[derive(Clone, Copy, Debug, PartialEq, Eq)]
 pub struct CoreFault {
     pub cause: Cause,
     pub address: u32,
@@ -48,14 +48,10 @@ impl fmt::Display for Cause {
 
     fn fmt<W: fmt::Write>(&self, f: &mut fmt::Formatter<W>) -> fmt::Result {
         match *self {
-            Cause::Unassigned => write!(f, "the operation is unassigned"),
-            Cause::Unaligned => write!(f, "the address is no multiple of four"),
-            Cause::NoWord(fault) => {
-                write!(
-                    f,
-                    "a memory of {} words has no word {}",
-                    fault.size, fault.number
-                )
+            Cause::Unassigned => f.write_str("the operation is unassigned"),
+            Cause::Unaligned => f.write_str("the address is no multiple of four"),
+            Cause::NoWord(MemoryFault { number, size }) => {
+                write!(f, "a memory of {size} words has no word {number}")
             }
         }
     }

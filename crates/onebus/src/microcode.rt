@@ -1,166 +1,89 @@
 // Our control store: the control word of each operation at each step.
 ghost use Rattle.std.specs.Prelude.{◌≡◌};
-ghost use Rattle.rows.specs.Rows.{blocks, table};
+ghost use Rattle.rows.specs.Rows.{table};
 ghost use Rattle.onebus.specs.Words.{word_in_store};
 
 use crate::control::ControlWord;
 use rows::Signal;
 
-const PC_OUT: u64 = 1 << Signal::PcOut as u32;
-
-const MD_OUT: u64 = 1 << Signal::MdOut as u32;
-
-const C_OUT: u64 = 1 << Signal::COut as u32;
-
-const R_OUT: u64 = 1 << Signal::ROut as u32;
-
-const BA_OUT: u64 = 1 << Signal::BaOut as u32;
-
-const C1_OUT: u64 = 1 << Signal::C1Out as u32;
-
-const C2_OUT: u64 = 1 << Signal::C2Out as u32;
-
-const MA_IN: u64 = 1 << Signal::MaIn as u32;
-
-const MD_IN: u64 = 1 << Signal::MdIn as u32;
-
-const IR_IN: u64 = 1 << Signal::IrIn as u32;
-
-const PC_IN: u64 = 1 << Signal::PcIn as u32;
-
-const CON_PC_IN: u64 = 1 << Signal::ConPcIn as u32;
-
-const A_IN: u64 = 1 << Signal::AIn as u32;
-
-const C_IN: u64 = 1 << Signal::CIn as u32;
-
-const R_IN: u64 = 1 << Signal::RIn as u32;
-
-const CON_IN: u64 = 1 << Signal::ConIn as u32;
-
-const LD: u64 = 1 << Signal::Ld as u32;
-
-const GRA: u64 = 1 << Signal::Gra as u32;
-
-const GRB: u64 = 1 << Signal::Grb as u32;
-
-const GRC: u64 = 1 << Signal::Grc as u32;
-
-const ADD: u64 = 1 << Signal::Add as u32;
-
-const SUB: u64 = 1 << Signal::Sub as u32;
-
-const AND: u64 = 1 << Signal::And as u32;
-
-const OR: u64 = 1 << Signal::Or as u32;
-
-const NEG: u64 = 1 << Signal::Neg as u32;
-
-const NOT: u64 = 1 << Signal::Not as u32;
-
-const C_IS_B: u64 = 1 << Signal::CIsB as u32;
-
-const INC4: u64 = 1 << Signal::Inc4 as u32;
-
-const SHR: u64 = 1 << Signal::Shr as u32;
-
-const SHRA: u64 = 1 << Signal::Shra as u32;
-
-const SHL: u64 = 1 << Signal::Shl as u32;
-
-const SHC: u64 = 1 << Signal::Shc as u32;
-
-const READ: u64 = 1 << Signal::Read as u32;
-
-const WRITE: u64 = 1 << Signal::Write as u32;
-
-const WAIT: u64 = 1 << Signal::Wait as u32;
-
-const DECR: u64 = 1 << Signal::Decr as u32;
-
-const GOTO6: u64 = 1 << Signal::Goto6 as u32;
-
-const STOP: u64 = 1 << Signal::Stop as u32;
-
-const END: u64 = 1 << Signal::End as u32;
-
-const N_IS_ZERO: u64 = 1 << Signal::NIsZero as u32;
-
-const N_IS_NOT_ZERO: u64 = 1 << Signal::NIsNotZero as u32;
+// The control word that gives these signals.
+macro_rules! word {
+    ($($signal:ident),*) => { 0 $(| 1 << Signal::$signal as u32)* };
+}
 
 // The steps, by what they do.
-const FETCH: u64 = PC_OUT | MA_IN | INC4 | C_IN;
+const FETCH: u64 = word![PcOut, MaIn, Inc4, CIn];
 
-const FETCH_READ: u64 = C_OUT | PC_IN | READ | WAIT;
+const FETCH_READ: u64 = word![COut, PcIn, Read, Wait];
 
-const FETCHED: u64 = MD_OUT | IR_IN;
+const FETCHED: u64 = word![MdOut, IrIn];
 
-const NOP: u64 = END;
+const NOP: u64 = word![End];
 
-const STOPPED: u64 = STOP | END;
+const STOPPED: u64 = word![Stop, End];
 
-const TEST_RC: u64 = GRC | R_OUT | CON_IN;
+const TEST_RC: u64 = word![Grc, ROut, ConIn];
 
-const BRANCH: u64 = GRB | R_OUT | CON_PC_IN;
+const BRANCH: u64 = word![Grb, ROut, ConPcIn];
 
-const BRANCH_END: u64 = GRB | R_OUT | CON_PC_IN | END;
+const BRANCH_END: u64 = word![Grb, ROut, ConPcIn, End];
 
-const LINK: u64 = PC_OUT | C_IS_B | C_IN;
+const LINK: u64 = word![PcOut, CIsB, CIn];
 
-const RB_TO_A: u64 = GRB | R_OUT | A_IN;
+const RB_TO_A: u64 = word![Grb, ROut, AIn];
 
-const INTO_RA: u64 = C_OUT | GRA | R_IN | END;
+const INTO_RA: u64 = word![COut, Gra, RIn, End];
 
-const ADD_RC: u64 = GRC | R_OUT | ADD | C_IN;
+const ADD_RC: u64 = word![Grc, ROut, Add, CIn];
 
-const SUB_RC: u64 = GRC | R_OUT | SUB | C_IN;
+const SUB_RC: u64 = word![Grc, ROut, Sub, CIn];
 
-const AND_RC: u64 = GRC | R_OUT | AND | C_IN;
+const AND_RC: u64 = word![Grc, ROut, And, CIn];
 
-const OR_RC: u64 = GRC | R_OUT | OR | C_IN;
+const OR_RC: u64 = word![Grc, ROut, Or, CIn];
 
-const ADD_C2: u64 = C2_OUT | ADD | C_IN;
+const ADD_C2: u64 = word![C2Out, Add, CIn];
 
-const AND_C2: u64 = C2_OUT | AND | C_IN;
+const AND_C2: u64 = word![C2Out, And, CIn];
 
-const OR_C2: u64 = C2_OUT | OR | C_IN;
+const OR_C2: u64 = word![C2Out, Or, CIn];
 
-const NEG_RC: u64 = GRC | R_OUT | NEG | C_IN;
+const NEG_RC: u64 = word![Grc, ROut, Neg, CIn];
 
-const NOT_RC: u64 = GRC | R_OUT | NOT | C_IN;
+const NOT_RC: u64 = word![Grc, ROut, Not, CIn];
 
-const BASE_TO_A: u64 = GRB | BA_OUT | A_IN;
+const BASE_TO_A: u64 = word![Grb, BaOut, AIn];
 
-const PC_TO_A: u64 = PC_OUT | A_IN;
+const PC_TO_A: u64 = word![PcOut, AIn];
 
-const ADD_C1: u64 = C1_OUT | ADD | C_IN;
+const ADD_C1: u64 = word![C1Out, Add, CIn];
 
-const TO_MA: u64 = C_OUT | MA_IN;
+const TO_MA: u64 = word![COut, MaIn];
 
-const LOAD: u64 = READ | WAIT;
+const LOAD: u64 = word![Read, Wait];
 
-const LOADED: u64 = MD_OUT | GRA | R_IN | END;
+const LOADED: u64 = word![MdOut, Gra, RIn, End];
 
-const RA_TO_MD: u64 = GRA | R_OUT | MD_IN;
+const RA_TO_MD: u64 = word![Gra, ROut, MdIn];
 
-const STORE: u64 = WRITE | WAIT | END;
+const STORE: u64 = word![Write, Wait, End];
 
-const COUNT: u64 = C1_OUT | LD;
+const COUNT: u64 = word![C1Out, Ld];
 
-const COUNT_RC: u64 = N_IS_ZERO | GRC | R_OUT | LD;
+const COUNT_RC: u64 = word![NIsZero, Grc, ROut, Ld];
 
-const RB_TO_C: u64 = GRB | R_OUT | C_IS_B | C_IN;
+const RB_TO_C: u64 = word![Grb, ROut, CIsB, CIn];
 
-const SHR_ONCE: u64 = N_IS_NOT_ZERO | C_OUT | SHR | C_IN | DECR | GOTO6;
+const SHR_ONCE: u64 = word![NIsNotZero, COut, Shr, CIn, Decr, Goto6];
 
-const SHRA_ONCE: u64 = N_IS_NOT_ZERO | C_OUT | SHRA | C_IN | DECR | GOTO6;
+const SHRA_ONCE: u64 = word![NIsNotZero, COut, Shra, CIn, Decr, Goto6];
 
-const SHL_ONCE: u64 = N_IS_NOT_ZERO | C_OUT | SHL | C_IN | DECR | GOTO6;
+const SHL_ONCE: u64 = word![NIsNotZero, COut, Shl, CIn, Decr, Goto6];
 
-const SHC_ONCE: u64 = N_IS_NOT_ZERO | C_OUT | SHC | C_IN | DECR | GOTO6;
+const SHC_ONCE: u64 = word![NIsNotZero, COut, Shc, CIn, Decr, Goto6];
 
 // A step that an operation does not have.
-const NONE: u64 = 0;
+const NONE: u64 = word![];
 
 // The control word of each code at each step, at code * 8 + step.
 static CONTROL_STORE: [u64; 256] = [
@@ -230,27 +153,17 @@ static CONTROL_STORE: [u64; 256] = [
     FETCH, FETCH_READ, FETCHED, STOPPED, NONE, NONE, NONE, NONE,
 ];
 
-/// The array, word by word that of the rows.
-fn words() -> &'static [u64; 256]
-    ensures { result.now ≡ blocks 32 0 }
-{
-    &CONTROL_STORE
-}
-
 /// The 256 control words, by code * 8 + step.
 pub fn control_store() -> &'static [u64; 256]
     ensures { result.now ≡ table }
 {
-    words()
+    &CONTROL_STORE
 }
 
 /// The control word of a code at a step, where there are such a code and step.
 pub fn control_word(code: u8, step: u8) -> Option<ControlWord>
     ensures { result ≡ word_in_store code step }
 {
-    if code < 32 && step < 8 {
-        Some(ControlWord(control_store()[code as usize * 8 + step as usize]))
-    } else {
-        None
-    }
+    (code < 32 && step < 8)
+        .then(|| ControlWord(control_store()[code as usize * 8 + step as usize]))
 }

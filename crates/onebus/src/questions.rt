@@ -2,7 +2,7 @@
 ghost use Rattle.std.specs.Prelude.{◌≡◌, ℕ, ◌/◌, ◌%◌, if◌then◌else◌, Some, None, ◌==◌, nat_lt, slice_index};
 ghost use Rattle.rows.specs.Rows.{table};
 ghost use Rattle.rows.specs.Core.{waits};
-ghost use Rattle.onebus.specs.View.{core_of};
+ghost use Rattle.onebus.specs.View.{Fits};
 
 use crate::register_set::Core;
 use rows::Signal;
@@ -12,7 +12,7 @@ impl Core {
     pub fn register(&self, i: usize) -> Option<u32>
         ensures { result ≡ (if nat_lt i 32 then Some (slice_index self.now.regs i) else None) }
     {
-        if i < 32 { Some(self.regs[i]) } else { None }
+        self.regs.get(i).copied()
     }
 
     pub fn pc(&self) -> u32
@@ -21,16 +21,17 @@ impl Core {
         self.pc
     }
 
-    /// The step T.
+    /// The step T. A caller learns here what every core meets.
     pub fn step_number(&self) -> u8
-        ensures { result ≡ self.now.t }
+        ensures step { result ≡ self.now.t }
+        ensures fits { Fits self.now }
     {
         self.t
     }
 
     /// Is the step at hand a Wait step?
     pub fn is_wait_step(&self) -> bool
-        ensures { result ≡ waits table (core_of self.now) }
+        ensures { result ≡ waits table self.now }
     {
         let word = self.control_word();
         word.has(Signal::Wait) && word.allows(self.n)

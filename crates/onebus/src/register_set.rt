@@ -1,5 +1,5 @@
 // The core's registers.
-ghost use Rattle.std.specs.Prelude.{ℕ, ◌^◌, ◌<◌, slice_index};
+use std::marker::Model;
 
 /// PC, R0 to R31, IR, MA, MD, A, C, the count n of five bits, the condition CON and the step T of three.
 #[derive(Drop)]
@@ -14,7 +14,17 @@ pub struct Core {
     pub(crate) n: u8,
     pub(crate) con: bool,
     pub(crate) t: u8,
-    ghost count: { n < 32 },
-    ghost step: { t < 8 },
-    ghost small: { (i : ℕ) → slice_index regs i < 2 ^ 32 },
+}
+
+// Contracts see the core of the definitions.
+impl Model for Core {
+    ghost use Rattle.rows.specs.Core as model;
+
+    ghost Value = { model.Core };
+
+    ghost use Rattle.onebus.specs.View.{seen, Fits};
+
+    ghost view = { seen };
+
+    ghost invariant = { λ k. Fits (seen k) };
 }

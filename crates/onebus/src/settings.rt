@@ -1,14 +1,14 @@
 // Making and setting a core.
 ghost use Rattle.std.specs.Prelude.{◌≡◌, ◌<◌, if◌then◌else◌, nat_lt};
 ghost use Rattle.rows.specs.Core.{at_step};
-ghost use Rattle.onebus.specs.View.{core_of, with_register, zeroed, cleared, restarted, started};
+ghost use Rattle.onebus.specs.View.{with_register, zeroed, cleared, restarted, started};
 
 use crate::register_set::Core;
 
 impl Core {
     /// A core whose registers are all 0.
     pub fn new() -> Self
-        ensures { core_of result ≡ zeroed }
+        ensures { result ≡ zeroed }
     {
         Core {
             pc: 0,
@@ -26,14 +26,14 @@ impl Core {
 
     /// Zeroes PC, T and R0 to R31.
     pub fn start(&mut self)
-        ensures { core_of self.new ≡ started (core_of self.old) }
+        ensures { self.new ≡ started self.old }
     {
         self.clear_registers();
         self.restart();
     }
 
     fn clear_registers(&mut self)
-        ensures { core_of self.new ≡ cleared (core_of self.old) }
+        ensures { self.new ≡ cleared self.old }
     {
         let zeros = [0; 32];
         self.regs = zeros;
@@ -41,7 +41,7 @@ impl Core {
 
     /// Zeroes PC and T.
     pub fn restart(&mut self)
-        ensures { core_of self.new ≡ restarted (core_of self.old) }
+        ensures { self.new ≡ restarted self.old }
     {
         self.pc = 0;
         self.resume();
@@ -49,14 +49,14 @@ impl Core {
 
     /// Zeroes T.
     pub fn resume(&mut self)
-        ensures { core_of self.new ≡ at_step (core_of self.old) 0 }
+        ensures { self.new ≡ at_step self.old 0 }
     {
         self.t = 0;
     }
 
     /// Sets a register, where there is one of that number.
     pub fn set_register(&mut self, i: usize, value: u32)
-        ensures { core_of self.new ≡ (if nat_lt i 32 then with_register (core_of self.old) i value else core_of self.old) }
+        ensures { self.new ≡ (if nat_lt i 32 then with_register self.old i value else self.old) }
     {
         if i < 32 {
             self.put(i, value);
@@ -65,7 +65,7 @@ impl Core {
 
     pub(crate) fn put(&mut self, i: usize, value: u32)
         requires { i < 32 }
-        ensures { core_of self.new ≡ with_register (core_of self.old) i value }
+        ensures { self.new ≡ with_register self.old i value }
     {
         self.regs[i] = value;
     }

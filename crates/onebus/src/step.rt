@@ -2,24 +2,24 @@
 ghost use Rattle.std.specs.Prelude.{◌≡◌, ℕ, true, false};
 ghost use Rattle.rows.specs.Rows.{table};
 ghost use Rattle.rows.specs.Core.{bus, stored, at_step, rowless, control_at};
-ghost use Rattle.onebus.specs.View.{core_of};
 ghost use Rattle.onebus.specs.Steps.{progress_of, Reads, Writes, Accesses, Stepped};
 
 use crate::control::ControlWord;
-use crate::datapath::{op, raised};
+use crate::datapath::raised;
 use crate::fault::{Cause, CoreFault};
 use crate::microcode::control_store;
 use crate::progress::Progress;
 use crate::register_set::Core;
+use isa::Field;
 use memory::Memory;
 use rows::Signal;
 
 impl Core {
     /// The control word of IR's operation at the step T.
     pub fn control_word(&self) -> ControlWord
-        ensures { result.0 ≡ control_at table (core_of self.now) }
+        ensures { result.0 ≡ control_at table self.now }
     {
-        ControlWord(control_store()[op(self.ir) * 8 + self.t as usize])
+        ControlWord(control_store()[Field::Op.of(self.ir) as usize * 8 + self.t as usize])
     }
 
     /// Has the operation no row? Its control word in T3 is empty.
@@ -31,10 +31,10 @@ impl Core {
 
     /// What MD has after the step's read, if it has one.
     fn read_word<M: Memory>(&self, word: ControlWord, memory: &mut M) -> Result<u32, Cause>
-        ensures { Reads M.Memory word.0 (core_of self.now) memory.old result memory.new }
+        ensures { Reads M.Memory word.0 self.now memory.old result memory.new }
     {
         if word.has(Signal::Read) {
-            Ok(memory.read(self.ma / 4)?)
+            Ok(memory.read(self.word_number())?)
         } else {
             Ok(self.md)
         }
@@ -42,22 +42,22 @@ impl Core {
 
     /// The step's write, if it has one.
     fn write_word<M: Memory>(&self, word: ControlWord, memory: &mut M) -> Result<(), Cause>
-        ensures { Writes M.Memory word.0 (core_of self.now) memory.old result memory.new }
+        ensures { Writes M.Memory word.0 self.now memory.old result memory.new }
     {
         if word.has(Signal::Write) {
-            memory.write(self.ma / 4, self.md)?;
+            memory.write(self.word_number(), self.md)?;
         }
         Ok(())
     }
 
     /// Reads and writes the word at MA as the step asks: what MD has then.
     fn access<M: Memory>(&self, word: ControlWord, memory: &mut M) -> Result<u32, Cause>
-        ensures { Accesses M.Memory word.0 (core_of self.now) memory.old result memory.new }
+        ensures { Accesses M.Memory word.0 self.now memory.old result memory.new }
     {
         if !word.touches_memory() {
             return Ok(self.md);
         }
-        if self.ma % 4 != 0 {
+        if !self.is_aligned() {
             return Err(Cause::Unaligned);
         }
         let held = self.read_word(word, memory)?;
@@ -67,7 +67,7 @@ impl Core {
 
     /// The registers of a step whose access leaves `held` for MD.
     fn carry_out(&mut self, word: ControlWord, held: u32) -> Progress
-        ensures core { core_of self.new ≡ stored word.0 (bus word.0 (core_of self.old)) held (core_of self.old) }
+        ensures core { self.new ≡ stored word.0 (bus word.0 self.old) held self.old }
         ensures answer { result ≡ progress_of word.0 }
     {
         let bus = self.bus(word);
@@ -77,7 +77,7 @@ impl Core {
 
     /// A fault at the address in MA: T becomes 0.
     fn fail(&mut self, cause: Cause) -> CoreFault
-        ensures core { core_of self.new ≡ at_step (core_of self.old) 0 }
+        ensures core { self.new ≡ at_step self.old 0 }
         ensures answer { result ≡ record { cause = cause; address = self.old.ma; step = self.old.t } }
     {
         let fault = CoreFault {
@@ -95,7 +95,7 @@ impl Core {
         word: ControlWord,
         memory: &mut M,
     ) -> Result<Progress, CoreFault>
-        ensures { Stepped M.Memory word.0 (core_of self.old) memory.old result (core_of self.new) memory.new }
+        ensures { Stepped M.Memory word.0 self.old memory.old result self.new memory.new }
     {
         if self.is_rowless(word) {
             return Err(self.fail(Cause::Unassigned));
@@ -104,6 +104,7 @@ impl Core {
             self.t = raised(self.t);
             return Ok(Progress::Within);
         }
+        // Kept: `map_err` does not say that a closure over the core which it never calls leaves it as it was.
         match self.access(word, memory) {
             Ok(held) => Ok(self.carry_out(word, held)),
             Err(cause) => Err(self.fail(cause)),
@@ -112,7 +113,7 @@ impl Core {
 
     /// One step under our control store.
     pub fn step<M: Memory>(&mut self, memory: &mut M) -> Result<Progress, CoreFault>
-        ensures { Stepped M.Memory (control_at table (core_of self.old)) (core_of self.old) memory.old result (core_of self.new) memory.new }
+        ensures { Stepped M.Memory (control_at table self.old) self.old memory.old result self.new memory.new }
     {
         let word = self.control_word();
         self.step_under(word, memory)

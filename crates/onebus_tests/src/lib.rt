@@ -4,44 +4,20 @@
 #[cfg(test)]
 mod tests {
     use memory::WordMemory;
-    use onebus::{Core, CoreFault, Progress};
-    use std::test::Fail;
+    use onebus::{Cause, Core, CoreFault, Progress};
 
-    // How one instruction went: its steps, and whether it stopped the machine or faulted.
-    #[derive(Drop)]
-    struct Run {
-        steps: u32,
-        stops: bool,
-        fault: Option<CoreFault>,
-    }
+    const FINISHED: Result<Progress, CoreFault> = Ok(Progress::Finished { stops: false });
 
-    // One instruction, or 64 steps of it.
-    fn one_instruction(core: &mut Core, words: &mut [u32]) -> Run {
+    // One instruction, or 64 steps of it: its steps, and what the last of them answers.
+    fn one_instruction(core: &mut Core, words: &mut [u32]) -> (u32, Result<Progress, CoreFault>) {
         let mut memory = WordMemory::new(words);
-        for steps in 1..65u32 {
-            match core.step(&mut memory) {
-                Ok(Progress::Within) => {}
-                Ok(Progress::Finished { stops }) => {
-                    return Run {
-                        steps,
-                        stops,
-                        fault: None,
-                    };
-                }
-                Err(fault) => {
-                    return Run {
-                        steps,
-                        stops: false,
-                        fault: Some(fault),
-                    };
-                }
+        for steps in 1..64u32 {
+            let answer = core.step(&mut memory);
+            if answer != Ok(Progress::Within) {
+                return (steps, answer);
             }
         }
-        Run {
-            steps: 64,
-            stops: false,
-            fault: None,
-        }
+        (64, core.step(&mut memory))
     }
 
     // brl r5, r5, r0, 1: PC takes the old R5
@@ -50,7 +26,7 @@ mod tests {
         let mut core = Core::new();
         core.set_register(5, 64);
         let run = one_instruction(&mut core, &mut [0x494A_0001]);
-        assert_eq!(rt; run.steps, 7);
+        assert_eq!(rt; run, (7, FINISHED));
         assert_eq!(rt; core.pc(), 64);
         assert_eq!(rt; core.register(5), Some(4));
     }
@@ -62,12 +38,12 @@ mod tests {
         core.set_register(2, 0x8000_0000);
         core.set_register(3, 33);
         let run = one_instruction(&mut core, &mut [0xD044_3000]);
-        assert_eq!(rt; run.steps, 9);
+        assert_eq!(rt; run, (9, FINISHED));
         assert_eq!(rt; core.register(1), Some(0x4000_0000));
         core.restart();
         core.set_register(3, 32);
         let run = one_instruction(&mut core, &mut [0xD044_3000]);
-        assert_eq!(rt; run.steps, 8);
+        assert_eq!(rt; run, (8, FINISHED));
         assert_eq!(rt; core.register(1), Some(0x8000_0000));
     }
 
@@ -76,36 +52,37 @@ mod tests {
     fn stops_in_four(rt: HostRuntime) {
         let mut core = Core::new();
         let run = one_instruction(&mut core, &mut [0xF800_0000]);
-        assert_eq!(rt; run.steps, 4);
-        assert!(rt; run.stops);
+        assert_eq!(rt; run, (4, Ok(Progress::Finished { stops: true })));
     }
 
     // ld r1, -1: the address is no multiple of four, though there is no such word either
     #[test]
-    fn faults_unaligned_first(rt: HostRuntime) -> Result<(), Fail> {
+    fn faults_unaligned_first(rt: HostRuntime) {
         let mut core = Core::new();
         let run = one_instruction(&mut core, &mut [0x0841_FFFF]);
-        let fault = run.fault.ok_or("no fault")?;
-        assert_eq!(rt; run.steps, 7);
+        let fault = CoreFault {
+            cause: Cause::Unaligned,
+            address: 0xFFFF_FFFF,
+            step: 6,
+        };
+        assert_eq!(rt; run, (7, Err(fault)));
         assert_eq!(rt; fault.cause.number(), 18);
-        assert_eq!(rt; fault.address, 0xFFFF_FFFF);
-        assert_eq!(rt; fault.step, 6);
-        Ok(())
     }
 
     // code 7 is unassigned; the fault's address is the instruction's
     #[test]
-    fn faults_unassigned_in_three(rt: HostRuntime) -> Result<(), Fail> {
+    fn faults_unassigned_in_three(rt: HostRuntime) {
         let mut core = Core::new();
         let mut words = [0, 0x3800_0000];
         let first = one_instruction(&mut core, &mut words);
-        assert_eq!(rt; first.steps, 4);
+        assert_eq!(rt; first, (4, FINISHED));
         let run = one_instruction(&mut core, &mut words);
-        let fault = run.fault.ok_or("no fault")?;
-        assert_eq!(rt; run.steps, 4);
+        let fault = CoreFault {
+            cause: Cause::Unassigned,
+            address: 4,
+            step: 3,
+        };
+        assert_eq!(rt; run, (4, Err(fault)));
         assert_eq!(rt; fault.cause.number(), 17);
-        assert_eq!(rt; fault.address, 4);
-        assert_eq!(rt; fault.step, 3);
-        Ok(())
     }
 }

@@ -3,7 +3,7 @@ use Rattle.onebus.proofs.register_set.Core.clear_registers.Goals as goal
 
 pub invariant_of-self : goal.invariant_of-self
 invariant_of-self c = record {
-  count = c.args.self.now.count;
-  step = c.args.self.now.step;
+  count = c.self.invariant.count;
+  step = c.self.invariant.step;
   small = all_small;
 }

@@ -4,6 +4,6 @@ use Rattle.onebus.proofs.register_set.Core.put.Goals as goal
 
 pub invariant_of-self : goal.invariant_of-self
 invariant_of-self c =
-    let s = c.args.self.now in
+    let h = c.self.invariant in
     let v : c.args.value < 2 ^ 32 = omega arith in
-    record { count = s.count; step = s.step; small = set_small s.regs c.args.i c.args.value (2 ^ 32) s.small v }
+    record { count = h.count; step = h.step; small = set_small c.self.inside.regs c.args.i c.args.value (2 ^ 32) h.small v }

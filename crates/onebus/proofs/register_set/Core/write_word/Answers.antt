@@ -1,17 +1,10 @@
-use Rattle.std.proofs.Common.{Result, sym, refl, ◌∙◌, subst}
-use Rattle.memory.specs.declared.memory.MemoryFault.{MemoryFault}
-use Rattle.onebus.specs.declared.fault.Cause.{Cause}
-use Rattle.onebus.specs.declared.fault.Cause.TheVariants.{NoWord}
-use Rattle.onebus.specs.View.{core_of}
-use Rattle.onebus.specs.Steps.{Writes}
-use Rattle.onebus.proofs.Stepping.{refusal_is, refused_write}
+use Rattle.std.proofs.Common.{arith}
+use Rattle.std.proofs.lemmas.Grind.{common_steps}
+use Rattle.std.proofs.lemmas.List.{set_past}
+use Rattle.std.proofs.lemmas.Result.{err_from_is_err_and}
 use Rattle.onebus.proofs.register_set.Core.write_word.Goals as goal
 
 pub returns-in_err-write : goal.returns-in_err-write
 returns-in_err-write g c =
-    let k = core_of c.args.self.now in
-    let f : MemoryFault = c.in_err-write.field-0.0 in
-    subst (λ (r : Result (Unit {0}) Cause). Writes g.M.Memory c.args.word.0 k c.args.memory.now r c.write.new.self)
-    (sym (refusal_is c.from_residual.result (NoWord f) c.from_residual.ensures.1))
-    (refused_write g.M.Memory c.args.word.0 k c.args.memory.now c.write.new.self _ f (NoWord f)
-    (sym c.has.ensures ∙ c.if-has.true) refl c.in_err-write.ensures)
+    let p = err_from_is_err_and c.from_residual.result c.from_residual.ensures.1 in
+    rw (p.1, p.2) (grind (arith, common_steps, set_past))
