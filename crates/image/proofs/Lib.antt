@@ -1,6 +1,7 @@
 pub mod Accepting
+pub mod Iterators
 pub mod Loaded
 pub mod Numbers
-pub mod Segments
+pub mod SegmentBytes
 pub mod Splits
 pub mod Walks

@@ -57,6 +57,15 @@ accepted_most k limit bytes = at (walk k limit bytes) refl where
   at (Ok segments) e = omega (arith, walk_length k limit bytes segments e)
   at (Err x) e = omega arith
 
+-- a segment was looked for, and the walk refused or accepted
+pub picked_err : (w : ℕ) (r : Read) (x : ImageRefusal) → Err x ≡ picked w r → Err x ≡ r
+picked_err w (Ok segments) x e = absurd (apart e refl)
+picked_err w (Err y) x e = cc
+
+pub picked_ok : (w : ℕ) (r : Read) (o : Option Segment) → Ok o ≡ picked w r → Ok (accepted r) ≡ r
+picked_ok w (Ok segments) o e = refl
+picked_ok w (Err y) o e = absurd (apart (sym e) refl)
+
 -- what stands at i, once one segment more stands at the end
 nth_push : (xs : List Segment) (x : Segment) (i : ℕ) → (length xs ≡ i → ⊥) → slice_get (xs ++ (x ∷ [])) i ≡ slice_get xs i
 nth_push [] x zero ne = absurd (ne refl)

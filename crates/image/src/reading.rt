@@ -8,7 +8,6 @@ ghost use Rattle.image.specs.Views.{Counted, told, walked};
 use crate::image::Image;
 use crate::number::number_at;
 use crate::refusal::ImageRefusal;
-use crate::walk::walk;
 
 // 53h 52h 43h 49h, with which the trailer begins.
 const MARK: u32 = 0x53524349;
@@ -29,16 +28,19 @@ fn opened(bytes: &[u8], size: u32) -> Result<Image<'_>, ImageRefusal>
     ensures whole { IfOk result (λ i. is_ok (walked i) ≡ true) }
 {
     let length = bytes.len();
-    if length < 12 || length > 65_536 {
+    let Some((rest, trailer)) = bytes.split_last_chunk::<12>() else {
+        return Err(ImageRefusal::Length(length));
+    };
+    if length > 65_536 {
         return Err(ImageRefusal::Length(length));
     }
-    let before = length - 12;
-    let found = number_at(bytes, before);
+    let found = number_at(trailer, 0);
     if found != MARK {
         return Err(ImageRefusal::Mark(found));
     }
-    let segments = number_at(bytes, length - 8);
-    let back = number_at(bytes, length - 4);
+    let segments = number_at(trailer, 4);
+    let back = number_at(trailer, 8);
+    let before = rest.len();
     if segments > 64 || back as usize > before {
         return Err(ImageRefusal::Trailer {
             segments,
@@ -46,12 +48,12 @@ fn opened(bytes: &[u8], size: u32) -> Result<Image<'_>, ImageRefusal>
             before,
         });
     }
-    let body = &bytes[before - back as usize..before];
-    // The walk decides. Which segment it looks for does not matter here.
-    let _ = walk(body, segments, size, 0)?;
-    Ok(Image {
-        body,
+    let image = Image {
+        body: &rest[before - back as usize..],
         count: segments,
         size,
-    })
+    };
+    // The walk decides. Which segment it looks for does not matter here.
+    let _ = image.walk(0)?;
+    Ok(image)
 }
