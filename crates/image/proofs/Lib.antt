@@ -1,4 +1,5 @@
 pub mod Accepting
+pub mod Hex
 pub mod Iterators
 pub mod Loaded
 pub mod Numbers
