@@ -5,6 +5,7 @@ use Rattle.std.specs.Option.{option_map}
 use Rattle.std.specs.List.{slice_get}
 use Rattle.image.specs.declared.refusal.ImageRefusal.{ImageRefusal}
 use Rattle.image.specs.declared.image.Image.{Image}
+use Rattle.image.specs.declared.walk.Body.{Body}
 use Rattle.image.specs.declared.part.ImagePart.{ImagePart}
 use Rattle.image.specs.declared.words.Words.{Words}
 use Rattle.image.specs.declared.segments.Segments.{Segments}
@@ -35,9 +36,9 @@ abbrev pub part_of : Result (Option ImagePart) ImageRefusal → Result (Option S
 part_of (Ok o) = Ok (option_map segment_of o)
 part_of (Err e) = Err e
 
--- what a walk over an image's bytes gives
-abbrev pub walked : Image → Result (List Segment) ImageRefusal
-walked i = walk i.count i.size i.body.now
+-- what a walk over the bytes of segments gives
+abbrev pub walked : Body → Result (List Segment) ImageRefusal
+walked b = walk b.count b.size b.bytes.now
 
 -- what was read, and nothing where it was refused
 abbrev pub accepted : Result (List Segment) ImageRefusal → List Segment
@@ -46,15 +47,11 @@ accepted (Err e) = []
 
 -- the segments of an image
 abbrev pub segments_of : Image → List Segment
-segments_of i = accepted (walked i)
+segments_of i = accepted (walked i.body)
 
 -- the segments that are left of an image: those with the numbers that are left
 abbrev pub segments_left : Segments → List Segment
 segments_left s = drop s.numbers.start (take s.numbers.end (segments_of s.image))
-
--- an image that counts its segments right
-abbrev pub Counted : Image → Type 0
-Counted i = i.count ≡ length (segments_of i)
 
 -- what the code tells of bytes that it read
 abbrev pub told : Result Image ImageRefusal → Result (List Segment) ImageRefusal

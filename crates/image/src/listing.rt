@@ -10,16 +10,16 @@ use crate::part::ImagePart;
 impl<'a> Image<'a> {
     // How many segments there are.
     pub fn count(&self) -> u32
-        ensures { result ≡ self.now.count }
+        ensures { result ≡ length (segments_of self.now) }
     {
-        self.count
+        self.body.count
     }
 
     // The segment number `i`, from 0, the lowest.
     pub fn segment(&self, i: u32) -> Option<ImagePart<'a>>
         ensures { option_map segment_of result ≡ slice_get (segments_of self.now) i }
     {
-        self.walk(i).ok().flatten()
+        self.body.walk(i).ok().flatten()
     }
 }
 

@@ -21,7 +21,7 @@ impl<'a> Image<'a> {
     {
         Segments {
             image: *self,
-            numbers: 0..self.count,
+            numbers: 0..self.count(),
         }
     }
 }

@@ -3,10 +3,17 @@ ghost use Rattle.std.specs.Prelude.{◌≡◌};
 ghost use Rattle.image.specs.Reading.{last_segment, nothing_left};
 ghost use Rattle.image.specs.Views.{split_of, picked, part_of, walked};
 
-use crate::image::Image;
 use crate::number::number_at;
 use crate::part::ImagePart;
 use crate::refusal::ImageRefusal;
+
+// The bytes of all segments of an image, their number, and the size of the memory that they are for.
+#[derive(Clone, Copy)]
+pub(crate) struct Body<'a> {
+    pub(crate) bytes: &'a [u8],
+    pub(crate) count: u32,
+    pub(crate) size: u32,
+}
 
 // Takes the segment at the end of `body` off, of the number `segment`, which may not pass `limit`: what stands before it, and the segment.
 fn last_segment(
@@ -58,12 +65,12 @@ fn whole(rest: &[u8]) -> Result<(), ImageRefusal>
     }
 }
 
-impl<'a> Image<'a> {
+impl<'a> Body<'a> {
     // Goes over the segments from the last to the first, and gives the one numbered `wanted`.
     pub(crate) fn walk(&self, wanted: u32) -> Result<Option<ImagePart<'a>>, ImageRefusal>
         ensures { part_of result ≡ picked wanted (walked self.now) }
     {
-        let mut rest = self.body;
+        let mut rest = self.bytes;
         let mut limit = self.size;
         let mut found = None;
         for segment in (0..self.count).rev() {

@@ -3,7 +3,7 @@ use Rattle.std.proofs.lemmas.Result.{err_from_is_err_and}
 use Rattle.std.specs.Option.{option_map}
 use Rattle.image.specs.Views.{segment_of}
 use Rattle.image.proofs.Walks.{turn_past, turn_found, turned_down, ended, left_over}
-use Rattle.image.proofs.image.Image.walk.Goals as goal
+use Rattle.image.proofs.walk.Body.walk.Goals as goal
 
 pub returns-in_err-before : goal.returns-in_err-before
 returns-in_err-before c =

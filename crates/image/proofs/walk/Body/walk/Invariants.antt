@@ -3,7 +3,7 @@ use Rattle.std.specs.Option.{option_map}
 use Rattle.image.specs.Reading.{walk}
 use Rattle.image.specs.Views.{picked, walked, segment_of}
 use Rattle.image.proofs.Walks.{merged}
-use Rattle.image.proofs.image.Image.walk.Given as goal
+use Rattle.image.proofs.walk.Body.walk.Given as goal
 
 -- what is found so far, beside what the rest of the walk finds, is what the whole walk finds
 abbrev pub invariant-loop-segment : goal.invariant-loop-segment
