@@ -1,7 +1,7 @@
 -- Reading accepts exactly what is written. Assumes nothing.
 use Rattle.std.proofs.Common.{◌≡◌, ℕ, zero, suc, ◌+◌, ◌-◌, ◌^◌, ◌<◌, ◌≤◌, Bool, true, false, cond, not, ◌||◌, eqb, ltb, List, [], ◌∷◌, ◌++◌, length, get_or, take, drop, Ok, Err, Result, sym, refl, ap, ◌∙◌, subst, inl, inr, arith}
 use Rattle.std.proofs.ByRecursion.{All-take, All-drop, All-from_get_or}
-use Rattle.std.proofs.lemmas.List.{append_assoc, append-nil, length-append, length-take, length-drop, length_push, take_at, drop_at, drop-drop, drop_all, take-append-drop, nil_from_length}
+use Rattle.std.proofs.lemmas.List.{append_assoc, append-nil, length-append, length-take, length-drop, length_push, take_at, drop_at, drop-drop, drop-take, take-take, drop_all, take-append-drop, nil_from_length}
 use Rattle.std.proofs.lemmas.Bool.{eqb-true, eq-eqb, or_parts, or_from, le-ltb, ltb-false, cond-true, cond-false, cases_Bool, not_from_true, not-false}
 use Rattle.std.specs.List.{flat_map, AllByRecursion}
 use Rattle.image.specs.declared.refusal.ImageRefusal.{ImageRefusal}
@@ -11,8 +11,8 @@ use Rattle.image.specs.Numbers.{number_at, number_bytes}
 use Rattle.image.specs.Reading.{mark, mark_of, number_of_segments, back_of, body_of, split_off, none_read, before_it, followed, walk, reading}
 use Rattle.image.specs.Segments.{Segment, end_of, Filled, Ascending, InOrder}
 use Rattle.image.specs.Writing.{segment_bytes, written}
-use Rattle.image.proofs.Numbers.{number_at_append, number_back, number_here}
-use Rattle.image.proofs.Segments.{joined_push, ascending_push, ascending_last, split_back, whole_back, taken_filled, taken_fits, taken_written}
+use Rattle.image.proofs.Numbers.{number_at_append, number_past, number_back, number_here}
+use Rattle.image.proofs.SegmentBytes.{joined_push, ascending_push, ascending_last, split_back, whole_back, taken_filled, taken_fits, taken_written}
 use Rattle.image.proofs.Splits.{apart, split_whole, taken_whole}
 use Rattle.image.proofs.Walks.{step, walk_length}
 
@@ -109,15 +109,41 @@ opened size bytes segments h =
           ]
     ]
 
-closed : (size : ℕ) (bytes : List ℕ) (segments : List Segment) → Opened size bytes segments → reading size bytes ≡ Ok segments
-closed size bytes segments o =
+-- bytes that end in a trailer are read as the walk over what stands before it
+passed : (size : ℕ) (bytes : List ℕ) → 12 ≤ length bytes → length bytes ≤ 65536 → mark_of bytes ≡ mark → number_of_segments bytes ≤ 64 → back_of bytes ≤ length bytes - 12 →
+    reading size bytes ≡ walk (number_of_segments bytes) size (body_of bytes)
+passed size bytes ended short marked few inside =
     let n = length bytes in
     let k = number_of_segments bytes in
     let back = back_of bytes in
-    cond-false (ltb n 12 || ltb 65536 n) _ _ (or_from (ltb n 12) (ltb 65536 n) (le-ltb n 12 o.ended) (le-ltb 65536 n o.short))
-    ∙ cond-false (not (eqb (mark_of bytes) mark)) _ _ (not_from_true (eqb (mark_of bytes) mark) (eq-eqb (mark_of bytes) mark o.marked))
-    ∙ cond-false (ltb 64 k || ltb (n - 12) back) _ _ (or_from (ltb 64 k) (ltb (n - 12) back) (le-ltb 64 k o.few) (le-ltb (n - 12) back o.inside))
-    ∙ o.walked
+    cond-false (ltb n 12 || ltb 65536 n) _ _ (or_from (ltb n 12) (ltb 65536 n) (le-ltb n 12 ended) (le-ltb 65536 n short))
+    ∙ cond-false (not (eqb (mark_of bytes) mark)) _ _ (not_from_true (eqb (mark_of bytes) mark) (eq-eqb (mark_of bytes) mark marked))
+    ∙ cond-false (ltb 64 k || ltb (n - 12) back) _ _ (or_from (ltb 64 k) (ltb (n - 12) back) (le-ltb 64 k few) (le-ltb (n - 12) back inside))
+
+closed : (size : ℕ) (bytes : List ℕ) (segments : List Segment) → Opened size bytes segments → reading size bytes ≡ Ok segments
+closed size bytes segments o = passed size bytes o.ended o.short o.marked o.few o.inside ∙ o.walked
+
+-- the same, in what the code has at hand
+pub walked_over : (size segments back : ℕ) (bytes rest trailer : List ℕ) → rest ≡ take (length bytes - 12) bytes → length rest + 12 ≡ length bytes → trailer ≡ drop (length bytes - 12) bytes → length bytes ≤ 65536 →
+    number_at trailer 0 ≡ mark → segments ≡ number_at trailer 4 → back ≡ number_at trailer 8 → segments ≤ 64 → back ≤ length rest →
+    walk segments size (take (length rest - (length rest - back)) (drop (length rest - back) rest)) ≡ reading size bytes
+walked_over size segments back bytes rest trailer r l t short marked k b few inside =
+    let n = length bytes in
+    let m : mark_of bytes ≡ mark = sym (number_past bytes trailer (n - 12) 0 (n - 12) t (omega arith)) ∙ marked in
+    let many : segments ≡ number_of_segments bytes = k ∙ number_past bytes trailer (n - 12) 4 (n - 8) t (omega (arith, l)) in
+    let far : back ≡ back_of bytes = b ∙ number_past bytes trailer (n - 12) 8 (n - 4) t (omega (arith, l)) in
+    let at : length rest - back ≡ n - 12 - back_of bytes = omega (arith, l, far) in
+    let long : length rest - (length rest - back) ≡ back_of bytes = omega (arith, inside, far) in
+    let whole : n - 12 ≡ n - 12 - back_of bytes + back_of bytes = omega (arith, l, inside, far) in
+    let body : take (length rest - (length rest - back)) (drop (length rest - back) rest) ≡ body_of bytes =
+    ap (λ i. take i (drop (length rest - back) rest)) long ∙ ap (λ i. take (back_of bytes) (drop i rest)) at
+    ∙ ap (λ xs. take (back_of bytes) (drop (n - 12 - back_of bytes) xs)) r
+    ∙ ap (λ i. take (back_of bytes) (drop (n - 12 - back_of bytes) (take i bytes))) whole
+    ∙ ap (take (back_of bytes)) (drop-take (n - 12 - back_of bytes) (back_of bytes) bytes)
+    ∙ take-take (back_of bytes) (back_of bytes) (drop (n - 12 - back_of bytes) bytes) (omega arith) in
+    ap (λ i. walk i size (take (length rest - (length rest - back)) (drop (length rest - back) rest))) many
+    ∙ ap (walk (number_of_segments bytes) size) body
+    ∙ sym (passed size bytes (omega (arith, l)) short m (subst (λ i. i ≤ 64) many few) (omega (arith, l, inside, far)))
 
 -- the bytes of an image, before and after its trailer was written
 trailer_written : (bytes : List ℕ) → AllByRecursion (λ b. b < 256) bytes → 12 ≤ length bytes →

@@ -1,6 +1,8 @@
 pub mod Accepting
+pub mod Hex
+pub mod Iterators
 pub mod Loaded
 pub mod Numbers
-pub mod Segments
+pub mod SegmentBytes
 pub mod Splits
 pub mod Walks

@@ -1,10 +1,9 @@
 -- Loading sets exactly the words that are listed. Assumes nothing.
-use Rattle.std.proofs.Common.{◌≡◌, ℕ, zero, suc, ◌+◌, ◌-◌, ◌^◌, ◌<◌, ◌≤◌, List, [], ◌∷◌, ◌++◌, length, get_or, take, set, Some, None, Ok, sym, refl, ap, ◌∙◌, subst, inl, inr, arith}
+use Rattle.std.proofs.Common.{◌≡◌, ℕ, zero, suc, ◌+◌, ◌-◌, ◌^◌, ◌<◌, ◌≤◌, List, [], ◌∷◌, length, get_or, set, Ok, sym, refl, ap, ◌∙◌, subst, inl, inr, arith}
 use Rattle.std.proofs.ByRecursion.{All-set}
-use Rattle.std.proofs.lemmas.List.{length-set, get_or-set_same, get_or-set_other, take_more, take_all, length-take-le}
-use Rattle.std.proofs.lemmas.Option.{slice_get_past as nth_past, slice_get-get_or}
+use Rattle.std.proofs.lemmas.List.{length-set, get_or-set_same, get_or-set_other}
 use Rattle.std.proofs.lemmas.Bool.{cases_lt, false≢true}
-use Rattle.std.specs.List.{AllByRecursion, slice_get}
+use Rattle.std.specs.List.{AllByRecursion}
 use Rattle.memory.specs.Memory.{Loan}
 use Rattle.image.specs.Loading.{stored, loaded, Listed, SetsWhatIsListed, verdict, words_with, Loads}
 use Rattle.image.specs.Reading.{reading}
@@ -87,72 +86,24 @@ sets low words (s ∷ rest) a =
 pub sets_what_is_listed : (words : List ℕ) (segments : List Segment) → InOrder (length words) segments → SetsWhatIsListed words segments
 sets_what_is_listed words segments ordered = sets 0 words segments ordered
 
--- one word more is stored
-stored_push : (words : List ℕ) (n : ℕ) (vs : List ℕ) (v : ℕ) → stored words n (vs ++ (v ∷ [])) ≡ set (stored words n vs) (n + length vs) v
-stored_push words n [] v = let z : n + 0 ≡ n = omega arith in ap (λ m. set words m v) (sym z)
-stored_push words n (x ∷ vs) v =
-    let e : n + 1 + length vs ≡ n + suc (length vs) = omega arith in
-    stored_push (set words n x) (n + 1) vs v ∙ ap (λ m. set (stored (set words n x) (n + 1) vs) m v) e
+-- segments in order from a word on are in order from any word below it
+lower : (below low size : ℕ) (segments : List Segment) → below ≤ low → Ascending low size segments → Ascending below size segments
+lower below low size [] h a = omega (arith, a)
+lower below low size (s ∷ rest) h a = (omega (arith, a.0), a.1, a.2)
 
--- what is found is an element
-pub found_below : {A : Type 0} (xs : List A) (i : ℕ) (x : A) → Some x ≡ slice_get xs i → i < length xs
-found_below xs i x e = elim (cases_lt i (length xs)) [
-  | inl lt ↦ lt
-  | inr past ↦ absurd (let none = nth_past xs i past in let z : ◌≡◌ {A = ℕ} 0 1 = cc in omega arith)
-]
+-- a turn of the loop that loads segments: the first of those that are left fits, and the others are left
+module _ (words : List ℕ) (left rest : List Segment) (s : Segment) (first : left ≡ s ∷ rest) (ordered : InOrder (length words) left) where
+  split : InOrder (length words) (s ∷ rest)
+  split = subst (InOrder (length words)) first ordered
 
-missing_past : {A : Type 0} (xs : List A) (i : ℕ) → None ≡ slice_get xs i → length xs ≤ i
-missing_past [] i e = omega arith
-missing_past (x ∷ xs) zero e = absurd (let z : ◌≡◌ {A = ℕ} 0 1 = cc in omega arith)
-missing_past (x ∷ xs) (suc i) e = let r = missing_past xs i e in omega arith
+  pub first_fits : end_of s ≤ length words
+  first_fits = within (end_of s) (length words) rest split.2
 
-take_found : {A : Type 0} (xs : List A) (i : ℕ) (x : A) → Some x ≡ slice_get xs i → take (i + 1) xs ≡ take i xs ++ (x ∷ [])
-take_found xs i x e =
-    let lt = found_below xs i x e in
-    let same : get_or xs i x ≡ x = let f = slice_get-get_or xs i x lt in cc in
-    take_more xs i x lt ∙ ap (λ y. take i xs ++ (y ∷ [])) same
+  pub rest_ordered : (after : List ℕ) → after ≡ stored words s.first s.values → InOrder (length after) rest
+  rest_ordered after e = subst (λ n. InOrder n rest) (sym (ap length e ∙ length_stored words s.first s.values)) (lower 0 (end_of s) (length words) rest (omega arith) split.2)
 
--- a turn of the loop that stores a segment's words
-pub stored_more : (start words after vs : List ℕ) (n k v : ℕ) → words ≡ stored start n (take k vs) → Some v ≡ slice_get vs k → after ≡ set words (n + k) v → after ≡ stored start n (take (k + 1) vs)
-stored_more start words after vs n k v a f w =
-    let lt = found_below vs k v f in
-    let long = length-take-le k vs (omega arith) in
-    w ∙ ap (λ xs. set xs (n + k) v) a ∙ ap (λ m. set (stored start n (take k vs)) (n + m) v) (sym long)
-    ∙ sym (stored_push start n (take k vs) v) ∙ ap (stored start n) (sym (take_found vs k v f))
-
-pub stored_all : (start words vs : List ℕ) (n k : ℕ) → words ≡ stored start n (take k vs) → None ≡ slice_get vs k → words ≡ stored start n vs
-stored_all start words vs n k a none = a ∙ ap (stored start n) (take_all k vs (missing_past vs k none))
-
--- one segment more is loaded
-loaded_push : (words : List ℕ) (segments : List Segment) (s : Segment) → loaded words (segments ++ (s ∷ [])) ≡ stored (loaded words segments) s.first s.values
-loaded_push words [] s = refl
-loaded_push words (x ∷ rest) s = loaded_push (stored words x.first x.values) rest s
-
--- a turn of the loop that loads segments
-pub loaded_more : (start words after : List ℕ) (segments : List Segment) (i : ℕ) (s : Segment) → words ≡ loaded start (take i segments) → Some s ≡ slice_get segments i →
-    after ≡ stored words s.first s.values → after ≡ loaded start (take (i + 1) segments)
-loaded_more start words after segments i s a f w =
-    w ∙ ap (λ xs. stored xs s.first s.values) a ∙ sym (loaded_push start (take i segments) s) ∙ ap (loaded start) (sym (take_found segments i s f))
-
-pub loaded_none : (start words : List ℕ) (segments : List Segment) (i : ℕ) → words ≡ loaded start (take i segments) → None ≡ slice_get segments i → words ≡ loaded start (take (i + 1) segments)
-loaded_none start words segments i a none =
-    let past = missing_past segments i none in
-    a ∙ ap (loaded start) (take_all i segments past ∙ sym (take_all (i + 1) segments (omega arith)))
-
-pub loaded_all : (start words : List ℕ) (segments : List Segment) (i : ℕ) → words ≡ loaded start (take i segments) → length segments ≤ i → words ≡ loaded start segments
-loaded_all start words segments i a h = a ∙ ap (loaded start) (take_all i segments h)
-
--- a segment of those in order ends within the size
-ends_within : (low size : ℕ) (segments : List Segment) (i : ℕ) (s : Segment) → Ascending low size segments → Some s ≡ slice_get segments i → end_of s ≤ size
-ends_within low size [] i s a f = absurd (let z : ◌≡◌ {A = ℕ} 0 1 = cc in omega arith)
-ends_within low size (x ∷ rest) zero s a f =
-    let same : x ≡ s = cc in
-    subst (λ y. end_of y ≤ size) same (within (end_of x) size rest a.2)
-ends_within low size (x ∷ rest) (suc i) s a f = ends_within (end_of x) size rest i s a.2 f
-
-pub fits_now : (start words : List ℕ) (segments : List Segment) (i : ℕ) (s : Segment) → words ≡ loaded start (take i segments) → InOrder (length start) segments → Some s ≡ slice_get segments i → end_of s ≤ length words
-fits_now start words segments i s a ordered f =
-    subst (λ n. end_of s ≤ n) (sym (ap length a ∙ length_loaded start (take i segments))) (ends_within 0 (length start) segments i s ordered f)
+  pub rest_loaded : (after : List ℕ) → after ≡ stored words s.first s.values → loaded after rest ≡ loaded words left
+  rest_loaded after e = ap (λ ws. loaded ws rest) e ∙ sym (ap (loaded words) first)
 
 -- what was read for the size of a memory suits it, and is what its words are set to
 module _ {S : Type 0} (words : S → List ℕ) (delay : S → ℕ → ℕ) (frame : S → List Loan) (s asked : S) (bytes : List ℕ) (size : ℕ) (segments : List Segment)

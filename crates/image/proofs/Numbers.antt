@@ -1,9 +1,10 @@
 -- The numbers of bytes: which one stands where, and that writing and reading a number are inverse. Assumes nothing.
-use Rattle.std.proofs.Common.{◌≡◌, ℕ, zero, suc, ◌+◌, ◌-◌, ◌*◌, ◌/◌, ◌%◌, ◌^◌, ◌<◌, ◌≤◌, cond, ltb, List, [], ◌∷◌, ◌++◌, length, get_or, drop, Some, None, sym, refl, ap, ◌∙◌, inl, inr, add_assoc, arith}
-use Rattle.std.proofs.lemmas.Bool.{cases_lt, lt-ltb, le-ltb, cond-true, cond-false}
+use Rattle.std.proofs.Common.{◌≡◌, ℕ, zero, suc, ◌+◌, ◌-◌, ◌*◌, ◌/◌, ◌%◌, ◌^◌, ◌<◌, ◌≤◌, List, [], ◌∷◌, ◌++◌, length, get_or, take, drop, Some, None, sym, refl, ap, ◌∙◌, subst, add_assoc, arith}
 use Rattle.std.proofs.lemmas.List.{get_or-drop, drop_at, drop-drop, length-drop}
 use Rattle.std.proofs.ByRecursion.{All-drop}
 use Rattle.std.proofs.lemmas.Option.{slice_get_past}
+use Rattle.std.specs.Int.{w32, from_be_bytes}
+use Rattle.std.specs.Simd.{first_chunks}
 use Rattle.std.specs.List.{slice_get, flat_map, AllByRecursion}
 use Rattle.image.specs.Numbers.{number, number_at, words_of, number_bytes}
 
@@ -17,6 +18,10 @@ number_at_drop n i bs =
     let d = at 3 in
     cc
 
+-- the number at i of what is left past n, which stands at j
+pub number_past : (bs tail : List ℕ) (n i j : ℕ) → tail ≡ drop n bs → n + i ≡ j → number_at tail i ≡ number_at bs j
+number_past bs tail n i j t e = ap (λ xs. number_at xs i) t ∙ number_at_drop n i bs ∙ ap (number_at bs) e
+
 pub number_at_append : (xs ys : List ℕ) (n i : ℕ) → length xs ≡ n → number_at (xs ++ ys) (n + i) ≡ number_at ys i
 number_at_append xs ys n i e = sym (number_at_drop n i (xs ++ ys)) ∙ ap (λ zs. number_at zs i) (drop_at xs ys n e)
 
@@ -27,25 +32,48 @@ length_words (a ∷ (b ∷ [])) = refl
 length_words (a ∷ (b ∷ (c ∷ []))) = refl
 length_words (a ∷ (b ∷ (c ∷ (d ∷ rest)))) = omega (arith, length_words rest)
 
-nth_words : (bs : List ℕ) (k : ℕ) → k < length bs / 4 → slice_get (words_of bs) k ≡ Some (number_at bs (4 * k))
-nth_words [] k h = absurd (omega arith)
-nth_words (a ∷ []) k h = absurd (omega arith)
-nth_words (a ∷ (b ∷ [])) k h = absurd (omega arith)
-nth_words (a ∷ (b ∷ (c ∷ []))) k h = absurd (omega arith)
-nth_words (a ∷ (b ∷ (c ∷ (d ∷ rest)))) zero h = refl
-nth_words (a ∷ (b ∷ (c ∷ (d ∷ rest)))) (suc k) h =
-    let bs = a ∷ (b ∷ (c ∷ (d ∷ rest))) in
-    let e : 4 + 4 * k ≡ 4 * suc k = omega arith in
-    nth_words rest k (omega arith) ∙ ap Some (number_at_drop 4 (4 * k) bs ∙ ap (number_at bs) e)
-
-words_past : (bs : List ℕ) (k : ℕ) → length bs / 4 ≤ k → slice_get (words_of bs) k ≡ None
+-- past the chunks there is no word
+pub words_past : (bs : List ℕ) (k : ℕ) → length bs / 4 ≤ k → slice_get (words_of bs) k ≡ None
 words_past bs k h = slice_get_past (words_of bs) k (omega (arith, length_words bs))
 
-pub word_here : (bs : List ℕ) (k : ℕ) → cond (ltb k (length bs / 4)) (Some (number_at bs (4 * k))) None ≡ slice_get (words_of bs) k
-word_here bs k = elim (cases_lt k (length bs / 4)) [
-  | inl h ↦ cond-true (ltb k (length bs / 4)) _ _ (lt-ltb k (length bs / 4) h) ∙ sym (nth_words bs k h)
-  | inr h ↦ cond-false (ltb k (length bs / 4)) _ _ (le-ltb k (length bs / 4) h) ∙ sym (words_past bs k h)
-]
+-- the word that the first four bytes are, and the words after it
+pub words_first : (bs : List ℕ) (n : ℕ) → 4 ≤ length bs → n ≡ from_be_bytes w32 (take 4 bs) → n < 2 ^ 32 → words_of bs ≡ n ∷ words_of (drop 4 bs)
+words_first [] n h e small = absurd (omega arith)
+words_first (a ∷ []) n h e small = absurd (omega arith)
+words_first (a ∷ (b ∷ [])) n h e small = absurd (omega arith)
+words_first (a ∷ (b ∷ (c ∷ []))) n h e small = absurd (omega arith)
+words_first (a ∷ (b ∷ (c ∷ (d ∷ rest)))) n h e small =
+    let same : number a b c d ≡ n = omega (arith, e, small) in
+    ap (λ x. x ∷ words_of rest) same
+
+-- fewer than four bytes are no word
+pub words_none : (bs : List ℕ) → length bs < 4 → words_of bs ≡ []
+words_none [] h = refl
+words_none (a ∷ []) h = refl
+words_none (a ∷ (b ∷ [])) h = refl
+words_none (a ∷ (b ∷ (c ∷ []))) h = refl
+words_none (a ∷ (b ∷ (c ∷ (d ∷ rest)))) h = absurd (omega arith)
+
+-- the word that one chunk of four bytes is, or one after it
+chunk_at : (a b c d : ℕ) (rest : List ℕ) (k n : ℕ) (chunk : List ℕ) → k < suc (length rest / 4) →
+    chunk ≡ get_or ((a ∷ (b ∷ (c ∷ (d ∷ [])))) ∷ first_chunks 4 (length rest / 4) rest) k chunk → n ≡ from_be_bytes w32 chunk → n < 2 ^ 32 →
+    ((j : ℕ) → j < length rest / 4 → chunk ≡ get_or (first_chunks 4 (length rest / 4) rest) j chunk → Some n ≡ slice_get (words_of rest) j) → Some n ≡ slice_get (number a b c d ∷ words_of rest) k
+chunk_at a b c d rest zero n chunk h i e small later =
+    let here : n ≡ from_be_bytes w32 (a ∷ (b ∷ (c ∷ (d ∷ [])))) = e ∙ ap (from_be_bytes w32) i in
+    let same : n ≡ number a b c d = omega (arith, here, small) in
+    ap Some same
+chunk_at a b c d rest (suc j) n chunk h i e small later = later j (omega arith) i
+
+-- the word that the chunk k of four bytes is
+pub word_of_chunk : (bs : List ℕ) (k n : ℕ) (chunk : List ℕ) → k < length bs / 4 → chunk ≡ get_or (first_chunks 4 (length bs / 4) bs) k chunk → n ≡ from_be_bytes w32 chunk → n < 2 ^ 32 → Some n ≡ slice_get (words_of bs) k
+word_of_chunk [] k n chunk h c e small = absurd (omega arith)
+word_of_chunk (a ∷ []) k n chunk h c e small = absurd (omega arith)
+word_of_chunk (a ∷ (b ∷ [])) k n chunk h c e small = absurd (omega arith)
+word_of_chunk (a ∷ (b ∷ (c ∷ []))) k n chunk h i e small = absurd (omega arith)
+word_of_chunk (a ∷ (b ∷ (c ∷ (d ∷ rest)))) k n chunk h i e small =
+    let bs = a ∷ (b ∷ (c ∷ (d ∷ rest))) in
+    let more : length bs / 4 ≡ suc (length rest / 4) = omega arith in
+    chunk_at a b c d rest k n chunk (omega arith) (subst (λ m. chunk ≡ get_or (first_chunks 4 m bs) k chunk) more i) e small (λ j h i. word_of_chunk rest j n chunk h i e small)
 
 -- words are of 32 bits
 pub words_below : (bs : List ℕ) → AllByRecursion (λ v. v < 2 ^ 32) (words_of bs)

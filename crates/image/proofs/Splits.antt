@@ -1,9 +1,9 @@
 -- The segment at the end of bytes: when it is accepted. Assumes nothing.
 use Rattle.std.proofs.Common.{◌≡◌, ℕ, ◌+◌, ◌-◌, ◌*◌, ◌≤◌, eqb, ltb, List, length, take, drop, Ok, Err, Result, sym, ap, ◌∙◌, subst, inl, inr, arith}
 use Rattle.std.proofs.lemmas.Bool.{le-ltb, lt-ltb, ne_eqb, eq-eqb, cond-true, cond-false, cases_lt, cases_eq}
+use Rattle.std.proofs.lemmas.List.{take-take, drop-take}
 use Rattle.image.specs.declared.refusal.ImageRefusal.{ImageRefusal}
 use Rattle.image.specs.Numbers.{words_of}
-use Rattle.image.specs.Views.{Ends}
 use Rattle.image.specs.Reading.{first_of, count_of, before_of, Split, split_off, last_segment}
 
 -- an Ok is no Err
@@ -24,31 +24,26 @@ split_whole i limit bytes w =
     ∙ cond-false (ltb (length bytes - 8) (4 * count_of bytes)) _ _ (le-ltb (length bytes - 8) (4 * count_of bytes) w.inside)
     ∙ cond-false (ltb limit (first_of bytes + count_of bytes)) _ _ (le-ltb limit (first_of bytes + count_of bytes) w.fits)
 
--- bytes taken apart at given places
-abbrev parts : ℕ → ℕ → ℕ → ℕ → List ℕ → Result Split ImageRefusal
-parts low first long start bytes = Ok (record { before = take low bytes; segment = record { first = first; values = words_of (take long (drop start bytes)) } })
-
--- the same, in the numbers that the code has at hand
-pub split_read : (i limit first count : ℕ) (bytes : List ℕ) → Ends limit bytes first count →
-    let start = length bytes - 8 - 4 * count in
-    parts (start - 0) first (length bytes - 8 - start) start bytes ≡ last_segment i limit bytes
-split_read i limit first count bytes ends =
-    let f = ends.first_is in
-    let c = ends.count_is in
-    let start = length bytes - 8 - 4 * count in
-    let same : start ≡ before_of bytes = ap (λ n. length bytes - 8 - 4 * n) c in
-    let low : start - 0 ≡ before_of bytes = omega (arith, same) in
-    let long : length bytes - 8 - start ≡ 4 * count_of bytes = omega (arith, ends.inside, ap (λ n. 4 * n) c) in
+-- the same, in what the code has at hand
+pub split_read : (i limit first count start : ℕ) (bytes rest before words : List ℕ) → rest ≡ take (length bytes - 8) bytes → length rest + 8 ≡ length bytes →
+    first ≡ first_of bytes → count ≡ count_of bytes → (count ≡ 0 → ⊥) → start + 4 * count ≡ length rest → first + count ≤ limit → before ≡ take start rest → words ≡ drop start rest →
+    Ok (record { before = before; segment = record { first = first; values = words_of words } }) ≡ last_segment i limit bytes
+split_read i limit first count start bytes rest before words r l f c some inside fits b w =
+    let at : start ≡ before_of bytes = omega (arith, inside, l, ap (λ n. 4 * n) c) in
+    let long : length bytes - 8 ≡ start + 4 * count_of bytes = omega (arith, inside, l, ap (λ n. 4 * n) c) in
+    let low : start ≤ length bytes - 8 = omega (arith, long) in
+    let front : before ≡ take (before_of bytes) bytes = b ∙ ap (take start) r ∙ take-take start (length bytes - 8) bytes low ∙ ap (λ n. take n bytes) at in
+    let held : words ≡ take (4 * count_of bytes) (drop (before_of bytes) bytes) =
+    w ∙ ap (drop start) r ∙ ap (λ n. drop start (take n bytes)) long ∙ drop-take start (4 * count_of bytes) bytes ∙ ap (λ n. take (4 * count_of bytes) (drop n bytes)) at in
     let whole : Whole limit bytes = record {
-      ended = ends.ended;
-      some = λ z. ends.some (c ∙ z);
-      inside = subst (λ n. 4 * n ≤ length bytes - 8) c ends.inside;
-      fits = subst (λ n. n + count_of bytes ≤ limit) f (subst (λ n. first + n ≤ limit) c ends.fits);
+      ended = omega (arith, l);
+      some = λ z. some (c ∙ z);
+      inside = omega (arith, long);
+      fits = subst (λ n. n + count_of bytes ≤ limit) f (subst (λ n. first + n ≤ limit) c fits);
     } in
-    ap (λ n. parts n first (length bytes - 8 - start) start bytes) low
-    ∙ ap (λ n. parts (before_of bytes) n (length bytes - 8 - start) start bytes) f
-    ∙ ap (λ n. parts (before_of bytes) (first_of bytes) n start bytes) long
-    ∙ ap (λ n. parts (before_of bytes) (first_of bytes) (4 * count_of bytes) n bytes) same
+    ap (λ xs. Ok (record { before = xs; segment = record { first = first; values = words_of words } })) front
+    ∙ ap (λ n. Ok (record { before = take (before_of bytes) bytes; segment = record { first = n; values = words_of words } })) f
+    ∙ ap (λ xs. Ok (record { before = take (before_of bytes) bytes; segment = record { first = first_of bytes; values = words_of xs } })) held
     ∙ sym (split_whole i limit bytes whole)
 
 -- and the other way: what is taken off was whole

@@ -1,13 +1,12 @@
 -- The walk over segments: one step of it, and the segment that is looked for. Assumes nothing.
-use Rattle.std.proofs.Common.{◌≡◌, ℕ, zero, suc, ◌-◌, ◌<◌, ◌≤◌, true, cond, eqb, List, [], ◌∷◌, ◌++◌, length, is_some, is_ok, IfOk, Some, None, Ok, Err, Option, Result, sym, refl, ap, ◌∙◌, subst, inl, inr, add-one, arith}
+use Rattle.std.proofs.Common.{◌≡◌, ℕ, zero, suc, ◌-◌, ◌<◌, ◌≤◌, true, cond, eqb, List, [], ◌∷◌, ◌++◌, length, is_some, IsOk, Some, None, Ok, Err, Option, Result, sym, refl, ap, ◌∙◌, subst, inl, inr, add-one, arith}
 use Rattle.std.proofs.lemmas.Bool.{cases_eq, cases_Bool, eq-eqb, ne_eqb, false≢true}
 use Rattle.std.proofs.lemmas.List.{length_push}
 use Rattle.std.specs.List.{slice_get}
 use Rattle.image.specs.declared.refusal.ImageRefusal.{ImageRefusal}
 use Rattle.image.specs.Segments.{Segment}
 use Rattle.image.specs.Reading.{Split, last_segment, nothing_left, none_read, before_it, followed, walk}
-use Rattle.image.specs.declared.image.Image.{Image}
-use Rattle.image.specs.Views.{picked, accepted, walked, Counted}
+use Rattle.image.specs.Views.{picked, accepted}
 use Rattle.image.proofs.Splits.{apart}
 
 abbrev Read : Type 0
@@ -41,21 +40,21 @@ walk_length (suc i) limit bytes segments h =
     let s = step i limit bytes segments h in
     ap length s.is ∙ length_push s.front s.split.segment ∙ add-one (length s.front) ∙ ap suc (walk_length i _ _ s.front s.before)
 
-accepted_length : (k limit : ℕ) (bytes : List ℕ) → is_ok (walk k limit bytes) ≡ true → k ≡ length (accepted (walk k limit bytes))
+-- and so does one that is accepted
+pub accepted_length : (k limit : ℕ) (bytes : List ℕ) → IsOk (walk k limit bytes) → k ≡ length (accepted (walk k limit bytes))
 accepted_length k limit bytes h = at (walk k limit bytes) refl h where
-  at : (r : Read) → walk k limit bytes ≡ r → is_ok r ≡ true → k ≡ length (accepted r)
+  at : (r : Read) → walk k limit bytes ≡ r → IsOk r → k ≡ length (accepted r)
   at (Ok segments) e ok = sym (walk_length k limit bytes segments e)
   at (Err x) e ok = absurd (false≢true ok)
 
-pub counted : (r : Result Image ImageRefusal) → IfOk r (λ i. is_ok (walked i) ≡ true) → IfOk r Counted
-counted (Ok i) h = accepted_length i.count i.size i.body.now h
-counted (Err e) h = tt
+-- a segment was looked for, and the walk refused or accepted
+pub picked_err : (w : ℕ) (r : Read) (x : ImageRefusal) → Err x ≡ picked w r → Err x ≡ r
+picked_err w (Ok segments) x e = absurd (apart e refl)
+picked_err w (Err y) x e = cc
 
-pub accepted_most : (k limit : ℕ) (bytes : List ℕ) → length (accepted (walk k limit bytes)) ≤ k
-accepted_most k limit bytes = at (walk k limit bytes) refl where
-  at : (r : Read) → walk k limit bytes ≡ r → length (accepted r) ≤ k
-  at (Ok segments) e = omega (arith, walk_length k limit bytes segments e)
-  at (Err x) e = omega arith
+pub picked_ok : (w : ℕ) (r : Read) (o : Option Segment) → Ok o ≡ picked w r → Ok (accepted r) ≡ r
+picked_ok w (Ok segments) o e = refl
+picked_ok w (Err y) o e = absurd (apart (sym e) refl)
 
 -- what stands at i, once one segment more stands at the end
 nth_push : (xs : List Segment) (x : Segment) (i : ℕ) → (length xs ≡ i → ⊥) → slice_get (xs ++ (x ∷ [])) i ≡ slice_get xs i

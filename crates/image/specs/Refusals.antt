@@ -1,5 +1,6 @@
 -- How the refusals of an image are told: by number, and in words. Assumes nothing.
-use Rattle.std.specs.Prelude.{ℕ, List, ◌++◌, Some, None, codes, decimal, Option}
+use Rattle.std.specs.Prelude.{ℕ, zero, suc, ◌/◌, ◌%◌, true, List, [], ◌∷◌, ◌++◌, Some, codes, decimal, Option}
+use Rattle.std.specs.Fmt.{digit_glyph}
 use Rattle.image.specs.declared.refusal.ImageRefusal.{ImageRefusal}
 use Rattle.image.specs.declared.refusal.ImageRefusal.TheVariants.{Length, Mark, Trailer, Cut, Empty, Beyond, Overlap, LeftOver}
 
@@ -14,10 +15,15 @@ refusal_number (Beyond segment count left) = 11
 refusal_number (Overlap segment first count limit) = 12
 refusal_number (LeftOver left) = 13
 
--- its reason in words; of the one that shows a mark, which is hexadecimal, nothing is said
+-- the last k digits of a number, as capital hexadecimal digits
+abbrev pub hex_digits : ℕ → ℕ → List ℕ
+hex_digits zero n = []
+hex_digits (suc k) n = hex_digits k (n / 16) ++ (digit_glyph true (n % 16) ∷ [])
+
+-- its reason in words
 abbrev pub refusal_text : ImageRefusal → Option (List ℕ)
 refusal_text (Length n) = Some (decimal n ++ codes " bytes, and an image has 12 to 65536")
-refusal_text (Mark found) = None
+refusal_text (Mark found) = Some (hex_digits 8 found ++ codes " stands for the mark 53524349")
 refusal_text (Trailer segments back before) =
     Some (decimal segments ++ (codes " segments of " ++ (decimal back ++ (codes " bytes, and there may be 64 of the " ++ (decimal before ++ codes " bytes before the trailer")))))
 refusal_text (Cut segment left) = Some (codes "segment " ++ (decimal segment ++ (codes " has " ++ (decimal left ++ codes " bytes, and needs 8"))))

@@ -1,27 +1,25 @@
 -- What the values of the code stand for: an image for its segments, a part of it for one segment. Assumes nothing.
-use Rattle.std.specs.Prelude.{◌≡◌, ℕ, ◌+◌, ◌-◌, ◌*◌, ◌≤◌, List, [], length, Ok, Err, Option, Result}
+use Rattle.std.specs.Prelude.{◌≡◌, ℕ, List, [], length, take, drop, Ok, Err, Option, Result}
 use Rattle.std.specs.Borrow.{Bor}
 use Rattle.std.specs.Option.{option_map}
 use Rattle.std.specs.List.{slice_get}
 use Rattle.image.specs.declared.refusal.ImageRefusal.{ImageRefusal}
 use Rattle.image.specs.declared.image.Image.{Image}
+use Rattle.image.specs.declared.walk.Body.{Body}
 use Rattle.image.specs.declared.part.ImagePart.{ImagePart}
+use Rattle.image.specs.declared.words.Words.{Words}
+use Rattle.image.specs.declared.segments.Segments.{Segments}
 use Rattle.image.specs.Numbers.{words_of}
 use Rattle.image.specs.Segments.{Segment}
-use Rattle.image.specs.Reading.{first_of, count_of, Split, walk}
+use Rattle.image.specs.Reading.{Split, walk}
 
 -- the segment that a part of an image holds
 abbrev pub segment_of : ImagePart → Segment
 segment_of p = record { first = p.first; values = words_of p.words.now }
 
--- the bytes end in a segment of the count, whose words are there and do not pass the limit
-pub record Ends (limit : ℕ) (bytes : List ℕ) (first count : ℕ) : Type 0 where
-  pub ended : 8 ≤ length bytes
-  pub first_is : first ≡ first_of bytes
-  pub count_is : count ≡ count_of bytes
-  pub some : count ≡ 0 → ⊥
-  pub inside : 4 * count ≤ length bytes - 8
-  pub fits : first + count ≤ limit
+-- the words that are left of a segment
+abbrev pub words_left : Words → List ℕ
+words_left w = words_of w.rest.now
 
 -- what the code tells of the segment at the end of bytes
 abbrev pub split_of : Result (Bor (List ℕ) × ImagePart) ImageRefusal → Result Split ImageRefusal
@@ -38,9 +36,9 @@ abbrev pub part_of : Result (Option ImagePart) ImageRefusal → Result (Option S
 part_of (Ok o) = Ok (option_map segment_of o)
 part_of (Err e) = Err e
 
--- what a walk over an image's bytes gives
-abbrev pub walked : Image → Result (List Segment) ImageRefusal
-walked i = walk i.count i.size i.body.now
+-- what a walk over the bytes of segments gives
+abbrev pub walked : Body → Result (List Segment) ImageRefusal
+walked b = walk b.count b.size b.bytes.now
 
 -- what was read, and nothing where it was refused
 abbrev pub accepted : Result (List Segment) ImageRefusal → List Segment
@@ -49,11 +47,11 @@ accepted (Err e) = []
 
 -- the segments of an image
 abbrev pub segments_of : Image → List Segment
-segments_of i = accepted (walked i)
+segments_of i = accepted (walked i.body)
 
--- an image that counts its segments right
-abbrev pub Counted : Image → Type 0
-Counted i = i.count ≡ length (segments_of i)
+-- the segments that are left of an image: those with the numbers that are left
+abbrev pub segments_left : Segments → List Segment
+segments_left s = drop s.numbers.start (take s.numbers.end (segments_of s.image))
 
 -- what the code tells of bytes that it read
 abbrev pub told : Result Image ImageRefusal → Result (List Segment) ImageRefusal

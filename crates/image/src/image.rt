@@ -1,9 +1,12 @@
 // An image that was read.
+ghost use Rattle.std.specs.Prelude.{IsOk};
+ghost use Rattle.image.specs.Reading.{walk};
 
-// Holds the bytes of all its segments, their number, and the size of the memory that they were read for.
+use crate::walk::Body;
+
 #[derive(Clone, Copy)]
 pub struct Image<'a> {
-    pub(crate) body: &'a [u8],
-    pub(crate) count: u32,
-    pub(crate) size: u32,
+    pub(crate) body: Body<'a>,
+    // Its segments are read, and none is refused.
+    pub ghost whole: { IsOk (walk body.count body.size body.bytes.now) },
 }

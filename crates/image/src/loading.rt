@@ -1,5 +1,5 @@
 // Loading an image into a memory.
-ghost use Rattle.std.specs.Prelude.{◌≡◌, ◌+◌, ◌^◌, ◌<◌, ◌≤◌, length, slice_set};
+ghost use Rattle.std.specs.Prelude.{◌≡◌, ◌≤◌, length};
 ghost use Rattle.image.specs.Loading.{stored, loaded, Loads};
 ghost use Rattle.image.specs.Segments.{end_of, InOrder};
 ghost use Rattle.image.specs.Views.{segment_of, segments_of};
@@ -24,10 +24,8 @@ fn set_segments<M: Memory>(memory: &mut M, image: &Image)
     ensures words { M.Memory.words memory.new ≡ loaded (M.Memory.words memory.old) (segments_of image.now) }
     ensures frame { M.Memory.frame memory.new ≡ M.Memory.frame memory.old }
 {
-    for i in 0..image.count() {
-        if let Some(part) = image.segment(i) {
-            set_words(memory, &part);
-        }
+    for part in image.segments() {
+        set_words(memory, &part);
     }
 }
 
@@ -36,17 +34,9 @@ fn set_words<M: Memory>(memory: &mut M, part: &ImagePart)
     ensures words { M.Memory.words memory.new ≡ stored (M.Memory.words memory.old) (segment_of part.now).first (segment_of part.now).values }
     ensures frame { M.Memory.frame memory.new ≡ M.Memory.frame memory.old }
 {
-    let mut k = 0;
-    while let Some(word) = part.word(k) {
-        set_word(memory, part.first, k, word);
-        k += 1;
+    let mut number = part.first();
+    for word in part.words() {
+        let _ = memory.write(number, word);
+        number += 1;
     }
-}
-
-fn set_word<M: Memory>(memory: &mut M, first: u32, k: usize, word: u32)
-    requires { first + k < 2 ^ 32 }
-    ensures words { M.Memory.words memory.new ≡ slice_set (M.Memory.words memory.old) (first + k) word }
-    ensures frame { M.Memory.frame memory.new ≡ M.Memory.frame memory.old }
-{
-    let _ = memory.write((first as usize + k) as u32, word);
 }

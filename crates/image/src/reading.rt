@@ -1,14 +1,14 @@
 // Reading an image from bytes.
-ghost use Rattle.std.specs.Prelude.{◌≡◌, true, List, is_ok, IfOk};
+ghost use Rattle.std.specs.Prelude.{◌≡◌, List};
 ghost use Rattle.image.specs.Accepting.{AcceptsExactly};
 ghost use Rattle.image.specs.Reading.{reading};
 ghost use Rattle.image.specs.Segments.{Segment};
-ghost use Rattle.image.specs.Views.{Counted, told, walked};
+ghost use Rattle.image.specs.Views.{told};
 
 use crate::image::Image;
 use crate::number::number_at;
 use crate::refusal::ImageRefusal;
-use crate::walk::walk;
+use crate::walk::Body;
 
 // 53h 52h 43h 49h, with which the trailer begins.
 const MARK: u32 = 0x53524349;
@@ -17,7 +17,6 @@ const MARK: u32 = 0x53524349;
 // The answer is the definition's, and with it comes that exactly what is written is accepted.
 pub fn read(bytes: &[u8], size: u32) -> Result<Image<'_>, ImageRefusal>
     ensures answer { told result ≡ reading size bytes.now }
-    ensures counted { IfOk result Counted }
     ensures accepts { (segments : List Segment) → AcceptsExactly (told result) size bytes.now segments }
 {
     opened(bytes, size)
@@ -25,20 +24,22 @@ pub fn read(bytes: &[u8], size: u32) -> Result<Image<'_>, ImageRefusal>
 
 // What `read` answers.
 fn opened(bytes: &[u8], size: u32) -> Result<Image<'_>, ImageRefusal>
-    ensures answer { told result ≡ reading size bytes.now }
-    ensures whole { IfOk result (λ i. is_ok (walked i) ≡ true) }
+    ensures { told result ≡ reading size bytes.now }
 {
     let length = bytes.len();
-    if length < 12 || length > 65_536 {
+    let Some((rest, trailer)) = bytes.split_last_chunk::<12>() else {
+        return Err(ImageRefusal::Length(length));
+    };
+    if length > 65_536 {
         return Err(ImageRefusal::Length(length));
     }
-    let before = length - 12;
-    let found = number_at(bytes, before);
+    let found = number_at(trailer, 0);
     if found != MARK {
         return Err(ImageRefusal::Mark(found));
     }
-    let segments = number_at(bytes, length - 8);
-    let back = number_at(bytes, length - 4);
+    let segments = number_at(trailer, 4);
+    let back = number_at(trailer, 8);
+    let before = rest.len();
     if segments > 64 || back as usize > before {
         return Err(ImageRefusal::Trailer {
             segments,
@@ -46,12 +47,12 @@ fn opened(bytes: &[u8], size: u32) -> Result<Image<'_>, ImageRefusal>
             before,
         });
     }
-    let body = &bytes[before - back as usize..before];
-    // The walk decides. Which segment it looks for does not matter here.
-    let _ = walk(body, segments, size, 0)?;
-    Ok(Image {
-        body,
+    let body = Body {
+        bytes: &rest[before - back as usize..],
         count: segments,
         size,
-    })
+    };
+    // The walk decides. Which segment it looks for does not matter here.
+    let _ = body.walk(0)?;
+    Ok(Image { body })
 }

@@ -2,10 +2,11 @@
 ghost use Rattle.std.specs.Prelude.{◌≡◌};
 ghost use Rattle.image.specs.Refusals.{refusal_number, refusal_text};
 
+use std::error::Error;
 use std::fmt;
 
 // The segments are numbered from 0, the lowest.
-#[derive(Clone, Copy)]
+#[derive(Clone, Copy, Debug, PartialEq, Eq)]
 pub enum ImageRefusal {
     // Under 12 or over 65,536 bytes: how many.
     Length(usize),
@@ -59,6 +60,8 @@ impl ImageRefusal {
         }
     }
 }
+
+impl Error for ImageRefusal {}
 
 impl fmt::Display for ImageRefusal {
     ghost output = { refusal_text };

@@ -1,36 +1,47 @@
 // The walk over the segments of an image, from the last to the first.
-ghost use Rattle.std.specs.Prelude.{◌≡◌, Err, MatchResult};
-ghost use Rattle.image.specs.Reading.{last_segment, nothing_left, walk as walk_of};
-ghost use Rattle.image.specs.Views.{Ends, split_of, picked, part_of};
+ghost use Rattle.std.specs.Prelude.{◌≡◌};
+ghost use Rattle.image.specs.Reading.{last_segment, nothing_left};
+ghost use Rattle.image.specs.Views.{split_of, picked, part_of, walked};
 
 use crate::number::number_at;
 use crate::part::ImagePart;
 use crate::refusal::ImageRefusal;
 
-// The first word number and the count at the end of `body`, of the segment number `segment`, which may not pass `limit`.
-fn segment_end(body: &[u8], limit: u32, segment: u32) -> Result<(u32, u32), ImageRefusal>
-    ensures { MatchResult result (λ e. Ends limit body.now e.0 e.1) (λ x. last_segment segment limit body.now ≡ Err x) }
+// The bytes of all segments of an image, their number, and the size of the memory that they are for.
+#[derive(Clone, Copy)]
+pub(crate) struct Body<'a> {
+    pub(crate) bytes: &'a [u8],
+    pub(crate) count: u32,
+    pub(crate) size: u32,
+}
+
+// Takes the segment at the end of `body` off, of the number `segment`, which may not pass `limit`: what stands before it, and the segment.
+fn last_segment(
+    body: &[u8],
+    limit: u32,
+    segment: u32,
+) -> Result<(&[u8], ImagePart<'_>), ImageRefusal>
+    ensures { split_of result ≡ last_segment segment limit body.now }
 {
-    let length = body.len();
-    if length < 8 {
+    let Some((rest, end)) = body.split_last_chunk::<8>() else {
         return Err(ImageRefusal::Cut {
             segment,
-            left: length,
+            left: body.len(),
         });
-    }
-    let left = length - 8;
-    let first = number_at(body, left);
-    let count = number_at(body, length - 4);
+    };
+    let first = number_at(end, 0);
+    let count = number_at(end, 4);
     if count == 0 {
         return Err(ImageRefusal::Empty { segment });
     }
-    if 4 * count as usize > left {
+    let left = rest.len();
+    let Some(start) = left.checked_sub(4 * count as usize) else {
         return Err(ImageRefusal::Beyond {
             segment,
             count,
             left,
         });
-    }
+    };
     if first as u64 + count as u64 > limit as u64 {
         return Err(ImageRefusal::Overlap {
             segment,
@@ -39,56 +50,38 @@ fn segment_end(body: &[u8], limit: u32, segment: u32) -> Result<(u32, u32), Imag
             limit,
         });
     }
-    Ok((first, count))
-}
-
-// Takes that segment off: what stands before it, and the segment.
-fn last_segment(
-    body: &[u8],
-    limit: u32,
-    segment: u32,
-) -> Result<(&[u8], ImagePart<'_>), ImageRefusal>
-    ensures { split_of result ≡ last_segment segment limit body.now }
-{
-    let (first, count) = segment_end(body, limit, segment)?;
-    let end = body.len() - 8;
-    let start = end - 4 * count as usize;
-    let words = &body[start..end];
-    Ok((&body[0..start], ImagePart { first, words }))
+    let (before, words) = rest.split_at(start);
+    Ok((before, ImagePart { first, words }))
 }
 
 // Refuses bytes that are left over.
 fn whole(rest: &[u8]) -> Result<(), ImageRefusal>
     ensures { result ≡ nothing_left rest.now }
 {
-    if rest.len() > 0 {
-        return Err(ImageRefusal::LeftOver(rest.len()));
+    if rest.is_empty() {
+        Ok(())
+    } else {
+        Err(ImageRefusal::LeftOver(rest.len()))
     }
-    Ok(())
 }
 
-// Goes over the `count` segments of `body` from the last to the first, and gives the one numbered `wanted`.
-pub(crate) fn walk(
-    body: &[u8],
-    count: u32,
-    size: u32,
-    wanted: u32,
-) -> Result<Option<ImagePart<'_>>, ImageRefusal>
-    ensures { part_of result ≡ picked wanted (walk_of count size body.now) }
-{
-    let mut rest = body;
-    let mut limit = size;
-    let mut left = count;
-    let mut found = None;
-    while left > 0 {
-        left -= 1;
-        let (before, part) = last_segment(rest, limit, left)?;
-        if left == wanted {
-            found = Some(part);
+impl<'a> Body<'a> {
+    // Goes over the segments from the last to the first, and gives the one numbered `wanted`.
+    pub(crate) fn walk(&self, wanted: u32) -> Result<Option<ImagePart<'a>>, ImageRefusal>
+        ensures { part_of result ≡ picked wanted (walked self.now) }
+    {
+        let mut rest = self.bytes;
+        let mut limit = self.size;
+        let mut found = None;
+        for segment in (0..self.count).rev() {
+            let (before, part) = last_segment(rest, limit, segment)?;
+            if segment == wanted {
+                found = Some(part);
+            }
+            limit = part.first;
+            rest = before;
         }
-        limit = part.first;
-        rest = before;
+        whole(rest)?;
+        Ok(found)
     }
-    whole(rest)?;
-    Ok(found)
 }

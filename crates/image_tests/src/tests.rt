@@ -32,36 +32,29 @@ fn many(heap: Global, segments: u32) -> Result<Vec<u32>, AllocError> {
 }
 
 // What reading says for a memory of `size` words: how many segments, or the refusal.
-fn tells(rt: &impl Abort, heap: Global, image: &[u8], size: u32, text: &str) -> Result<(), Fail> {
+fn tells(rt: &(impl Abort + AllocGlobal), image: &[u8], size: u32, text: &str) -> Result<(), Fail> {
     let told = match read(image, size) {
-        Ok(image) => {
-            let count = image.count();
-            format!(in heap; "segments: {count}")?
-        }
-        Err(refusal) => format!(in heap; "{refusal}")?,
+        Ok(image) => format!(in rt.alloc(); "segments: {}", image.count())?,
+        Err(refusal) => refusal.to_string(rt.alloc())?,
     };
     assert_eq!(rt; told.as_str(), text);
     Ok(())
 }
 
 fn reads(
-    rt: &impl Abort,
-    heap: Global,
+    rt: &(impl Abort + AllocGlobal),
     numbers: &[u32],
     size: u32,
     text: &str,
 ) -> Result<(), Fail> {
-    tells(rt, heap, &bytes(heap, 0, numbers)?, size, text)
+    tells(rt, &bytes(rt.alloc(), 0, numbers)?, size, text)
 }
 
 #[test]
 fn one_segment(rt: HostRuntime) -> Result<(), Fail> {
     let bytes =
         b"\x68\xC2\x00\x3A\xF8\x00\x00\x00\x00\x00\x00\x00\x00\x00\x00\x02\x53\x52\x43\x49\x00\x00\x00\x01\x00\x00\x00\x10";
-    let image = match read(bytes, 2) {
-        Ok(image) => image,
-        Err(_) => return Err(Fail::new("refused")),
-    };
+    let image = read(bytes, 2).map_err(|_| "refused")?;
     let part = image.segment(0).ok_or("no segment")?;
     assert_eq!(rt; part.first(), 0);
     assert_eq!(rt; part.count(), 2);
@@ -72,28 +65,35 @@ fn one_segment(rt: HostRuntime) -> Result<(), Fail> {
     Ok(())
 }
 
+// Each word, with the number of its segment's first word.
+#[test]
+fn goes_over(rt: HostRuntime) -> Result<(), Fail> {
+    let bytes = bytes(rt.alloc(), 1, &TWO_SEGMENTS)?;
+    let image = read(&bytes, 7).map_err(|_| "refused")?;
+    let mut words = Vec::new(rt.alloc());
+    for part in image.segments() {
+        for word in part.words() {
+            words.push((part.first(), word))?;
+        }
+    }
+    assert_eq!(rt; words.as_slice(), [(4, 1), (4, 2), (6, 3)].as_slice());
+    Ok(())
+}
+
 #[test]
 fn lengths(rt: HostRuntime) -> Result<(), Fail> {
     let heap = rt.alloc();
-    tells(&rt, heap, b"SRCI\0\0\0\0\0\0\0\0", 0, "segments: 0")?;
+    tells(&rt, b"SRCI\0\0\0\0\0\0\0\0", 0, "segments: 0")?;
     tells(
         &rt,
-        heap,
         b"RCI\0\0\0\0\0\0\0\0",
         0,
         "11 bytes, and an image has 12 to 65536",
     )?;
-    tells(&rt, heap, &bytes(heap, 3, &TWO_WORDS)?, 2, "segments: 1")?;
+    tells(&rt, &bytes(heap, 3, &TWO_WORDS)?, 2, "segments: 1")?;
+    tells(&rt, &bytes(heap, 65_508, &TWO_WORDS)?, 2, "segments: 1")?;
     tells(
         &rt,
-        heap,
-        &bytes(heap, 65_508, &TWO_WORDS)?,
-        2,
-        "segments: 1",
-    )?;
-    tells(
-        &rt,
-        heap,
         &bytes(heap, 65_509, &TWO_WORDS)?,
         2,
         "65537 bytes, and an image has 12 to 65536",
@@ -105,23 +105,20 @@ fn trailers(rt: HostRuntime) -> Result<(), Fail> {
     let heap = rt.alloc();
     reads(
         &rt,
-        heap,
         &[1, 0, 1, 0x53524348, 1, 12],
         1,
         "53524348 stands for the mark 53524349",
     )?;
-    reads(&rt, heap, &many(heap, 64)?, 64, "segments: 64")?;
+    reads(&rt, &many(heap, 64)?, 64, "segments: 64")?;
     reads(
         &rt,
-        heap,
         &many(heap, 65)?,
         65,
         "65 segments of 780 bytes, and there may be 64 of the 780 bytes before the trailer",
     )?;
-    reads(&rt, heap, &[1, 0, 1, MARK, 1, 12], 1, "segments: 1")?;
+    reads(&rt, &[1, 0, 1, MARK, 1, 12], 1, "segments: 1")?;
     reads(
         &rt,
-        heap,
         &[1, 0, 1, MARK, 1, 13],
         1,
         "1 segments of 13 bytes, and there may be 64 of the 12 bytes before the trailer",
@@ -130,33 +127,28 @@ fn trailers(rt: HostRuntime) -> Result<(), Fail> {
 
 #[test]
 fn segments(rt: HostRuntime) -> Result<(), Fail> {
-    let heap = rt.alloc();
     reads(
         &rt,
-        heap,
         &[1, 0, 1, MARK, 1, 7],
         1,
         "segment 0 has 7 bytes, and needs 8",
     )?;
-    reads(&rt, heap, &[0, 0, MARK, 1, 8], 1, "segment 0 has no words")?;
+    reads(&rt, &[0, 0, MARK, 1, 8], 1, "segment 0 has no words")?;
     reads(
         &rt,
-        heap,
         &[1, 0, 2, MARK, 1, 12],
         2,
         "segment 0 has 2 words, and there are 4 bytes for them",
     )?;
     reads(
         &rt,
-        heap,
         &[1, 1, 1, MARK, 1, 12],
         1,
         "segment 0 has 1 words from number 1 on, and has to end before number 1",
     )?;
-    reads(&rt, heap, &[1, 1, 1, MARK, 1, 12], 2, "segments: 1")?;
+    reads(&rt, &[1, 1, 1, MARK, 1, 12], 2, "segments: 1")?;
     reads(
         &rt,
-        heap,
         &[2, 1, 0, 1, MARK, 1, 16],
         1,
         "4 bytes are left over before segment 0",
@@ -165,11 +157,9 @@ fn segments(rt: HostRuntime) -> Result<(), Fail> {
 
 #[test]
 fn order(rt: HostRuntime) -> Result<(), Fail> {
-    let heap = rt.alloc();
-    reads(&rt, heap, &TWO_SEGMENTS, 7, "segments: 2")?;
+    reads(&rt, &TWO_SEGMENTS, 7, "segments: 2")?;
     reads(
         &rt,
-        heap,
         &[1, 2, 4, 2, 3, 5, 1, MARK, 2, 28],
         7,
         "segment 0 has 2 words from number 4 on, and has to end before number 5",
@@ -177,14 +167,12 @@ fn order(rt: HostRuntime) -> Result<(), Fail> {
     // the last segment passes the size and the first has no words: the last decides
     reads(
         &rt,
-        heap,
         &[1, 2, 4, 0, 3, 6, 1, MARK, 2, 28],
         6,
         "segment 1 has 1 words from number 6 on, and has to end before number 6",
     )?;
     reads(
         &rt,
-        heap,
         &[1, 2, 4, 0, 3, 6, 1, MARK, 2, 28],
         7,
         "segment 0 has no words",
@@ -192,7 +180,6 @@ fn order(rt: HostRuntime) -> Result<(), Fail> {
     // words that are not there and that pass the size: 11 comes before 12
     reads(
         &rt,
-        heap,
         &[1, 0, 2, MARK, 1, 12],
         1,
         "segment 0 has 2 words, and there are 4 bytes for them",
@@ -214,10 +201,8 @@ fn refuses_to_load(rt: HostRuntime) -> Result<(), Fail> {
     let image = bytes(rt.alloc(), 1, &TWO_SEGMENTS)?;
     let mut words = [9; 6];
     let mut memory = WordMemory::new(&mut words);
-    match load(&mut memory, &image) {
-        Ok(()) => return Err(Fail::new("loaded")),
-        Err(refusal) => assert_eq!(rt; refusal.number(), 12),
-    }
+    let loaded = load(&mut memory, &image).map_err(|refusal| refusal.number());
+    assert_eq!(rt; loaded, Err(12));
     assert_eq!(rt; words, [9; 6]);
     Ok(())
 }

@@ -1,11 +1,9 @@
 use Rattle.image.specs.Views.{told}
 use Rattle.image.proofs.Accepting.{accepts_exactly}
-use Rattle.image.proofs.Walks.{counted}
 use Rattle.image.proofs.reading.read.Goals as goal
 
 pub returns : goal.returns
 returns c = record {
-  answer = c.opened.ensures.answer;
-  counted = counted c.opened.result c.opened.ensures.whole;
-  accepts = accepts_exactly (told c.opened.result) c.args.size c.args.bytes.now c.opened.ensures.answer c.ranges.size.fits (λ i. (c.type_inv.bytes i).fits);
+  answer = c.opened.ensures;
+  accepts = accepts_exactly (told c.opened.result) c.args.size c.args.bytes.now c.opened.ensures c.ranges.size.fits (λ i. (c.type_inv.bytes i).fits);
 }
