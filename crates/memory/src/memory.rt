@@ -6,7 +6,7 @@ ghost use Rattle.memory.specs.Memory.{Loan, Laws, Asked, Read, Written};
 pub(crate) const MOST_WORDS: u32 = 8192;
 
 /// The refusal of a word number that is not below the memory's size.
-#[derive(Clone, Copy)]
+#[derive(Clone, Copy, Debug, PartialEq, Eq)]
 pub struct MemoryFault {
     pub number: u32,
     pub size: u32,
@@ -57,9 +57,5 @@ pub(crate) fn admit(number: u32, size: u32) -> Result<(), MemoryFault>
 pub(crate) fn capped(count: usize) -> u32
     ensures { result ≡ min 8192 count }
 {
-    if count < MOST_WORDS as usize {
-        count as u32
-    } else {
-        MOST_WORDS
-    }
+    count.min(MOST_WORDS as usize) as u32
 }
