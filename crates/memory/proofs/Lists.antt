@@ -1,5 +1,5 @@
 -- Words that are cut and wrapped. Assumes nothing.
-use Rattle.std.proofs.Common.{◌≡◌, ℕ, zero, suc, ◌^◌, ◌<◌, min, List, [], ◌∷◌, map, length, get_or, take, drop, set, sym, refl, ap, ◌∙◌, arith, MutBor}
+use Rattle.std.proofs.Common.{◌≡◌, ℕ, zero, suc, ◌^◌, ◌<◌, min, List, [], ◌∷◌, map, length, get_or, take, set, sym, refl, ap, ◌∙◌, arith, MutBor}
 use Rattle.std.proofs.lemmas.List.{length-map, get_or-map, map-set, length-take, get_or-take}
 use Rattle.memory.specs.Memory.{cut, wrap, word_list, loan_of}
 
@@ -39,6 +39,6 @@ unfolding word_list
 words_set ws n v f = ap cut (map-set wrap ws n v) ∙ cut_set (map wrap ws) n (wrap v) ∙ ap (λ w. set (word_list ws) n w) (wrapped v f)
 
 -- the loan stays as it is where it has the same name and rest
-pub loan_same : (used used' : ℕ) (s t : MutBor (List ℕ)) → t.ghost_name ≡ s.ghost_name → drop used' t.now ≡ drop used s.now → loan_of used' t ≡ loan_of used s
+pub loan_same : {T : Type 0} (past : List T → List ℕ) (s t : MutBor (List T)) → t.ghost_name ≡ s.ghost_name → past t.now ≡ past s.now → loan_of past t ≡ loan_of past s
 unfolding loan_of
-loan_same used used' s t e f = cc
+loan_same past s t e f = cc

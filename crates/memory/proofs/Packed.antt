@@ -1,30 +1,20 @@
 -- Words that are packed in bytes. Assumes nothing.
-use Rattle.std.proofs.Common.{◌≡◌, ℕ, ◌+◌, ◌-◌, ◌*◌, ◌/◌, ◌%◌, ◌^◌, ◌<◌, ◌≤◌, min, ◌≢◌, List, [], ◌∷◌, length, get_or, drop, set, sym, refl, ap, ◌∙◌, ⊎_elim, arith, rules}
+use Rattle.std.proofs.Common.{◌≡◌, ℕ, zero, suc, ◌+◌, ◌-◌, ◌*◌, ◌/◌, ◌^◌, ◌<◌, ◌≤◌, min, ◌≢◌, List, [], length, get_or, take, drop, set, sym, refl, ap, ◌∙◌, ⊎_elim, arith, rules}
 use borrow.Rule.Slice.PartMut.{put_mid}
-use Rattle.std.proofs.lemmas.List.{places, get_or_past, length-set, get_or-set_same, get_or-set_other}
+use Rattle.std.specs.Simd.{first_chunks}
+use Rattle.std.specs.Int.{w32, from_be_bytes, to_be_bytes}
+use Rattle.std.proofs.lemmas.List.{drop-drop, get_or-drop, get_or-take, places, get_or_past, length-set, get_or-set_same, get_or-set_other}
 use Rattle.std.proofs.lemmas.Slice.{overwrites}
 use Rattle.std.proofs.lemmas.List.FromFn.{length-map-range_with_len, get_or-map-range_with_len, fill_by_all}
-use Rattle.std.proofs.lemmas.Nat.{shr-shr, div-add-mod'}
+use Rattle.std.proofs.lemmas.Nat.{from_be_bytes-to_be_bytes_4}
 use Rattle.std.proofs.lemmas.Bool.{cases_eq, cases_lt}
 use Rattle.memory.specs.ByteMemory.{packed_word, packed, bytes_used}
 use Rattle.memory.specs.Memory.{word_list}
 use Rattle.memory.proofs.Lists.{words_length, words_set}
 
--- the four bytes of a word, high byte first
-abbrev pub bytes_of : ℕ → List ℕ
-bytes_of v = (v / 16777216 % 256) ∷ (v / 65536 % 256) ∷ (v / 256 % 256) ∷ (v % 256) ∷ []
-
 -- the bytes with word number n replaced
 abbrev pub put : List ℕ → ℕ → ℕ → List ℕ
-put bs n v = put_mid (4 * n) 4 bs (bytes_of v)
-
-digits : (v a b c : ℕ) → a ≡ v / 256 → b ≡ a / 256 → c ≡ b / 256 → c < 256 → c % 256 * 16777216 + b % 256 * 65536 + a % 256 * 256 + v % 256 ≡ v
-digits v a b c e f g h =
-    let i : a * 256 + v % 256 ≡ v = ap (λ z. z * 256 + v % 256) e ∙ div-add-mod' v 256 in
-    let j : b * 256 + a % 256 ≡ a = ap (λ z. z * 256 + a % 256) f ∙ div-add-mod' a 256 in
-    let k : c * 256 + b % 256 ≡ b = ap (λ z. z * 256 + b % 256) g ∙ div-add-mod' b 256 in
-    let l : c % 256 ≡ c = omega arith in
-    omega arith
+put bs n v = put_mid (4 * n) 4 bs (to_be_bytes w32 v)
 
 -- after a write of ys to the k places from a on
 module _ (a k : ℕ) (xs ys : List ℕ) (within : a + k ≤ length xs) (long : length ys ≡ k) where
@@ -63,20 +53,34 @@ packed_fits bs h k = ⊎_elim
     (λ l. omega (arith, get_or_past (packed bs) k 0 (omega (arith, packed_length bs))))
     (cases_lt k (length bs / 4))
 
+-- chunk number n of four bytes each, of k
+chunk_at : (k n : ℕ) (bs : List ℕ) → n < k → get_or (first_chunks 4 k bs) n [] ≡ take 4 (drop (4 * n) bs)
+chunk_at zero n bs h = absurd (omega arith)
+chunk_at (suc k) zero bs h = refl
+chunk_at (suc k) (suc n) bs h =
+    let e : 4 + 4 * n ≡ 4 * suc n = omega arith in
+    chunk_at k n (drop 4 bs) (omega arith) ∙ ap (take 4) (drop-drop (4 * n) 4 bs ∙ ap (λ m. drop m bs) e)
+
+module _ (k n : ℕ) (bs : List ℕ) (here : n < k) where
+  chunk_byte : (i j : ℕ) → i < 4 → 4 * n + i ≡ j → get_or (get_or (first_chunks 4 k bs) n []) i 0 ≡ get_or bs j 0
+  chunk_byte i j h e = ap (λ (l : List ℕ). get_or l i 0) (chunk_at k n bs here) ∙ get_or-take 4 _ i 0 h ∙ get_or-drop (4 * n) bs i 0 ∙ ap (λ m. get_or bs m 0) e
+
+  pub chunk_word : from_be_bytes w32 (get_or (first_chunks 4 k bs) n []) ≡ packed_word bs n
+  chunk_word = omega (arith, chunk_byte 0 (4 * n) (omega arith) (omega arith), chunk_byte 1 (4 * n + 1) (omega arith) refl, chunk_byte 2 (4 * n + 2) (omega arith) refl, chunk_byte 3 (4 * n + 3) (omega arith) refl)
+
 module _ (bs : List ℕ) (n v : ℕ) (within : 4 * n + 4 ≤ length bs) where
   put_length : length (put bs n v) ≡ length bs
-  put_length = mid_length (4 * n) 4 bs (bytes_of v) within refl
+  put_length = mid_length (4 * n) 4 bs (to_be_bytes w32 v) within refl
 
   put_here : v < 2 ^ 32 → packed_word (put bs n v) n ≡ v
   put_here fits =
-      let e = mid_in (4 * n) 4 bs (bytes_of v) within refl in
-      let d = digits v (v / 256) (v / 65536) (v / 16777216) refl (sym (shr-shr v 8 8)) (sym (shr-shr v 16 8)) (omega arith) in
-      omega (arith, e 0 (4 * n) (omega arith) (omega arith), e 1 (4 * n + 1) (omega arith) refl, e 2 (4 * n + 2) (omega arith) refl, e 3 (4 * n + 3) (omega arith) refl)
+      let e = mid_in (4 * n) 4 bs (to_be_bytes w32 v) within refl in
+      omega (arith, from_be_bytes-to_be_bytes_4 v fits, e 0 (4 * n) (omega arith) (omega arith), e 1 (4 * n + 1) (omega arith) refl, e 2 (4 * n + 2) (omega arith) refl, e 3 (4 * n + 3) (omega arith) refl)
 
   put_there : (k : ℕ) → k ≢ n → packed_word (put bs n v) k ≡ packed_word bs k
   put_there k ne = same_word (put bs n v) bs k (λ j l h.
-      ⊎_elim (λ b. mid_before (4 * n) 4 bs (bytes_of v) within refl j (omega arith))
-      (λ b. mid_after (4 * n) 4 bs (bytes_of v) within refl j (omega arith)) (cases_lt k n))
+      ⊎_elim (λ b. mid_before (4 * n) 4 bs (to_be_bytes w32 v) within refl j (omega arith))
+      (λ b. mid_after (4 * n) 4 bs (to_be_bytes w32 v) within refl j (omega arith)) (cases_lt k n))
 
   packed_put : v < 2 ^ 32 → packed (put bs n v) ≡ set (packed bs) n v
   unfolding packed
@@ -90,7 +94,7 @@ module _ (bs : List ℕ) (n v : ℕ) (within : 4 * n + 4 ≤ length bs) where
       (cases_eq k n)))
 
   -- the bytes as the code leaves them
-  module _ (ys : List ℕ) (is : ys ≡ bytes_of v) where
+  module _ (ys : List ℕ) (is : ys ≡ to_be_bytes w32 v) where
     left : put_mid (4 * n) (4 * n + 4 - 4 * n) bs ys ≡ put bs n v
     left = let e : 4 * n + 4 - 4 * n ≡ 4 = omega arith in ap (λ k. put_mid (4 * n) k bs ys) e ∙ ap (put_mid (4 * n) 4 bs) is
 
@@ -100,4 +104,4 @@ module _ (bs : List ℕ) (n v : ℕ) (within : 4 * n + 4 ≤ length bs) where
     pub put_rest : n < length (word_list (packed bs)) → let bs' = put_mid (4 * n) (4 * n + 4 - 4 * n) bs ys in drop (bytes_used bs') bs' ≡ drop (bytes_used bs) bs
     put_rest h =
         ap (λ (l : List ℕ). drop (bytes_used l) l) left ∙ ap (λ m. drop (4 * min 8192 (m / 4)) (put bs n v)) put_length
-        ∙ mid_drop (4 * n) 4 bs (bytes_of v) within refl (bytes_used bs) (omega (arith, words_length (packed bs), packed_length bs))
+        ∙ mid_drop (4 * n) 4 bs (to_be_bytes w32 v) within refl (bytes_used bs) (omega (arith, words_length (packed bs), packed_length bs))

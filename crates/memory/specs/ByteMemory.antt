@@ -1,8 +1,6 @@
--- What a byte memory means. Assumes nothing.
-use Rattle.std.specs.Prelude.{ℕ, ◌+◌, ◌*◌, ◌/◌, min, List, map, length, slice_index}
+-- How words are packed in bytes. Assumes nothing.
+use Rattle.std.specs.Prelude.{ℕ, ◌+◌, ◌*◌, ◌/◌, min, List, map, length, drop, slice_index}
 use Rattle.std.specs.List.{range_with_len}
-use Rattle.memory.specs.Memory.{word_list, Loan, loan_of}
-use Rattle.memory.specs.declared.byte_memory.ByteMemory.{ByteMemory}
 
 -- word number n of some bytes: four bytes, high byte first
 abbrev pub packed_word : List ℕ → ℕ → ℕ
@@ -16,14 +14,6 @@ packed bs = map (packed_word bs) (range_with_len 0 (length bs / 4))
 abbrev pub bytes_used : List ℕ → ℕ
 bytes_used bs = 4 * min 8192 (length bs / 4)
 
--- at most the first 8,192 whole words of the lent bytes
-abbrev pub byte_words : ByteMemory → List ℕ
-byte_words s = word_list (packed s.bytes.now)
-
--- no word has a delay
-abbrev pub byte_delay : ByteMemory → ℕ → ℕ
-byte_delay s n = 0
-
--- what lies past them
-abbrev pub byte_frame : ByteMemory → List Loan
-byte_frame s = loan_of (bytes_used s.bytes.now) s.bytes
+-- the bytes past them
+abbrev pub past_bytes : List ℕ → List ℕ
+past_bytes bs = drop (bytes_used bs) bs

@@ -3,13 +3,13 @@ use Rattle.std.specs.Prelude.{ℕ, zero, suc, ◌^◌, ◌<◌, ◌≤◌, List,
 use Rattle.std.proofs.Common.{arith, length-take}
 use Rattle.std.proofs.lemmas.Bool.{le-ltb, cond-false, cond_both}
 use Rattle.memory.specs.Memory.{cut, wrap, word_list, Laws}
-use Rattle.memory.specs.WordMemory.{word_words, word_delay}
-use Rattle.memory.specs.ByteMemory.{packed, byte_words, byte_delay}
+use Rattle.memory.specs.SliceMemory.{slice_words, slice_delay}
 use Rattle.memory.specs.Delays.{slower}
 use Rattle.memory.specs.SlowStretch.{in_stretch, slow_words, slow_delay}
 use Rattle.memory.specs.OpenRow.{off_row, row_words, row_delay}
 use Rattle.memory.specs.Pair.{joined, pair_words, pair_delay}
 use Rattle.memory.specs.declared.memory.Memory.{Ghosts}
+use Rattle.memory.specs.declared.slice_memory.Element
 
 cut_few : (ws : List ℕ) → length (cut ws) ≤ 8192
 cut_few ws = omega (arith, length-take 8192 ws)
@@ -33,21 +33,14 @@ append_fits [] ys g h n = h n
 append_fits (x ∷ xs) ys g h zero = g 0
 append_fits (x ∷ xs) ys g h (suc n) = append_fits xs ys (λ k. g (suc k)) h n
 
--- the laws of some words that are cut and wrapped, with no delays
-flat_laws : {S : Type 0} (list : S → List ℕ) → Laws (λ s. word_list (list s)) (λ _ _. 0)
+pub slice_laws : {T : Type 0} (element : Element.Ghosts T) → Laws (slice_words element) (slice_delay element)
 unfolding word_list
-flat_laws list = record {
-  few = λ s. cut_few (map wrap (list s));
-  fits = λ s. take_fits 8192 _ (map_fits wrap wrap_fits (list s));
+slice_laws element = record {
+  few = λ s. cut_few (map wrap (element.held s.elements.now));
+  fits = λ s. take_fits 8192 _ (map_fits wrap wrap_fits (element.held s.elements.now));
   short = λ s n. omega arith;
   past = λ s n h. refl;
 }
-
-pub word_laws : Laws word_words word_delay
-word_laws = flat_laws (λ s. s.words.now)
-
-pub byte_laws : Laws byte_words byte_delay
-byte_laws = flat_laws (λ s. packed s.bytes.now)
 
 -- the laws of a memory's words with some delays added
 module _ {S M : Type 0} (memory : Ghosts M) (below : S → M) (more : S → ℕ → ℕ) where

@@ -1,6 +1,6 @@
 pub mod Memory
-pub mod WordMemory
 pub mod ByteMemory
+pub mod SliceMemory
 pub mod Delays
 pub mod SlowStretch
 pub mod OpenRow

@@ -1,5 +1,5 @@
 -- What a memory means, and what each of its calls promises. Assumes nothing.
-use Rattle.std.specs.Prelude.{◌≡◌, ℕ, ◌%◌, ◌^◌, ◌<◌, ◌≤◌, cond, List, [], ◌∷◌, map, length, take, drop, Ok, Err, Result, nat_lt, slice_index, slice_set}
+use Rattle.std.specs.Prelude.{◌≡◌, ℕ, ◌%◌, ◌^◌, ◌<◌, ◌≤◌, cond, List, [], ◌∷◌, map, length, take, Ok, Err, Result, nat_lt, slice_index, slice_set}
 use Rattle.std.specs.Borrow.{MutBor}
 use Rattle.memory.specs.declared.memory.MemoryFault.{MemoryFault}
 
@@ -28,9 +28,9 @@ pub record Loan : Type 0 where
   pub loan : ℕ
   pub rest : List ℕ
 
--- the one loan of a slice of which the first elements, so many, are used
-unfoldable pub loan_of : ℕ → MutBor (List ℕ) → List Loan
-loan_of used s = record { loan = s.ghost_name; rest = drop used s.now } ∷ []
+-- the one loan of a slice, where the function tells what of its elements lies past those that are used
+unfoldable pub loan_of : {T : Type 0} → (List T → List ℕ) → MutBor (List T) → List Loan
+loan_of past s = record { loan = s.ghost_name; rest = past s.now } ∷ []
 
 -- the words of a memory over a list: at most its first 8,192. A word is taken as one of 32 bits, as every word of the code is
 unfoldable pub word_list : List ℕ → List ℕ

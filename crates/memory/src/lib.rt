@@ -7,6 +7,7 @@ mod edits;
 mod memory;
 mod open_row;
 mod pair;
+mod slice_memory;
 mod slow_stretch;
 mod word_memory;
 
@@ -15,5 +16,6 @@ pub use edits::{copy_word, fill};
 pub use memory::{Memory, MemoryFault};
 pub use open_row::OpenRow;
 pub use pair::Pair;
+pub use slice_memory::SliceMemory;
 pub use slow_stretch::SlowStretch;
 pub use word_memory::WordMemory;

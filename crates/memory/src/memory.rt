@@ -57,9 +57,5 @@ pub(crate) fn admit(number: u32, size: u32) -> Result<(), MemoryFault>
 pub(crate) fn capped(count: usize) -> u32
     ensures { result ≡ min 8192 count }
 {
-    if count < MOST_WORDS as usize {
-        count as u32
-    } else {
-        MOST_WORDS
-    }
+    count.min(MOST_WORDS as usize) as u32
 }

@@ -60,8 +60,8 @@ impl Board {
 
     // The memory of the board, over words and bytes that are lent.
     pub(crate) fn pile<'a>(self, words: &'a mut [u32], bytes: &'a mut [u8]) -> Pile<'a>
-        ensures words { result.below.below.first.words.now ≡ words.old }
-        ensures bytes { result.below.below.second.bytes.now ≡ bytes.old }
+        ensures words { result.below.below.first.elements.now ≡ words.old }
+        ensures bytes { result.below.below.second.elements.now ≡ bytes.old }
         ensures stretch { (result.below.first ≡ self.first) × (result.below.length ≡ self.length) × (result.below.extra ≡ self.extra) }
         ensures row { (result.extra ≡ self.row) × (result.row ≡ None) }
     {

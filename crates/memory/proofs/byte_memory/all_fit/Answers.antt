@@ -1,7 +1,0 @@
-use Rattle.std.proofs.Common.{rules}
-use Rattle.memory.proofs.Lists.{words_plain}
-use Rattle.memory.proofs.Packed.{packed_fits}
-use Rattle.memory.proofs.byte_memory.all_fit.Goals as goal
-
-pub returns : goal.returns
-returns c = words_plain _ (packed_fits _ (λ k. search rules))
