@@ -7,7 +7,10 @@ ghost use Rattle.memory.specs.SlowStretch.{in_stretch};
 ghost use Rattle.memory.specs.Pair.{joined};
 ghost use Rattle.memory.specs.Edits.{copy_of, copied};
 
-use memory::{ByteMemory, Memory, MemoryFault, OpenRow, Pair, SlowStretch, WordMemory, copy_word};
+use memory::{
+    ByteMemory, Memory, MemoryFault, OpenRow, Pair, Row, SlowStretch, Stretch, WordMemory,
+    copy_word,
+};
 
 /// Copies a word in a pile of all five memories over two lent slices.
 pub fn copy_in_pile(
@@ -19,7 +22,7 @@ pub fn copy_in_pile(
     ensures { result ≡ copy_of (joined (cut words.old) (cut (packed bytes.old))) from to }
 {
     let pair = Pair::new(WordMemory::new(words), ByteMemory::new(bytes));
-    let mut pile = OpenRow::new(SlowStretch::new(pair, 16, 64, 3), 7);
+    let mut pile = OpenRow::new(SlowStretch::new(pair, Stretch::new(16, 64, 3)), Row::new(7));
     copy_word(&mut pile, from, to)
 }
 
@@ -27,7 +30,8 @@ pub fn copy_in_pile(
 pub fn delay_in_pile(words: &mut [u32], number: u32) -> u8
     ensures { result ≡ slower (cut words.old) (slower (cut words.old) (λ _. 0) (in_stretch 16 64 3)) (λ _. 7) number }
 {
-    let mut pile = OpenRow::new(SlowStretch::new(WordMemory::new(words), 16, 64, 3), 7);
+    let slow = SlowStretch::new(WordMemory::new(words), Stretch::new(16, 64, 3));
+    let mut pile = OpenRow::new(slow, Row::new(7));
     pile.delay(number)
 }
 
