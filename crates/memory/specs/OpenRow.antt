@@ -1,6 +1,5 @@
 -- What the rule of an open row means. Assumes nothing.
 use Rattle.std.specs.Prelude.{ℕ, ◌/◌, Bool, false, if◌then◌else◌, List, length, Some, None, Option, ◌==◌, nat_lt}
-use Rattle.memory.specs.declared.open_row.Row.{Row}
 
 -- does word number n lie in the open row? A row has 64 words
 abbrev pub in_row : Option ℕ → ℕ → Bool
@@ -10,10 +9,6 @@ in_row (Some row) n = row == n / 64
 -- what is added for word number n: the extra outside of the open row
 abbrev pub off_row : ℕ → Option ℕ → ℕ → ℕ
 off_row extra row n = if in_row row n then 0 else extra
-
--- the rule after an accepted access to word number n: the word's row is open
-abbrev pub row_opened : Row → ℕ → Row
-row_opened r n = record { extra = r.extra; opened = Some (n / 64) }
 
 -- the open row after a read or write of word number n: that of the word, or as before where it was refused
 abbrev pub row_after : List ℕ → Option ℕ → ℕ → Option ℕ

@@ -1,11 +1,12 @@
-// A layer that adds an extra delay for the words outside of the row that is open.
-ghost use Rattle.std.specs.Prelude.{◌≡◌, None};
-ghost use Rattle.memory.specs.OpenRow.{off_row, row_opened};
+// The rule that the words outside of the open row are slow, and the layer with it.
+ghost use Rattle.std.specs.Prelude.{◌≡◌, ◌/◌, Some, None};
+ghost use Rattle.memory.specs.OpenRow.{off_row};
 
 use crate::delays::{SlowRule, Slowed};
 
 const ROW_WORDS: u32 = 64;
 
+/// A memory with an extra delay for the words outside of the row that is open.
 pub type OpenRow<M> = Slowed<M, Row>;
 
 /// `extra` more for the words of another row than that of the last access, which is open.
@@ -30,7 +31,8 @@ impl Row {
 impl SlowRule for Row {
     ghost extra = { λ r. off_row r.extra r.opened };
 
-    ghost after = { row_opened };
+    // The row of the word is open.
+    ghost after = { λ r n. record r { opened = Some (n / 64) } };
 
     #[inline]
     fn extra(&self, number: u32) -> u8 {

@@ -1,9 +1,10 @@
-// A layer that adds an extra delay for the words of one stretch.
+// The rule that the words of one stretch are slow, and the layer with it.
 ghost use Rattle.std.specs.Prelude.{◌≡◌};
-ghost use Rattle.memory.specs.SlowStretch.{in_stretch, same_stretch};
+ghost use Rattle.memory.specs.SlowStretch.{in_stretch};
 
 use crate::delays::{SlowRule, Slowed};
 
+/// A memory with an extra delay for the words of one stretch.
 pub type SlowStretch<M> = Slowed<M, Stretch>;
 
 /// `extra` more for the words from the number `first` on, `length` of them.
@@ -29,7 +30,8 @@ impl Stretch {
 impl SlowRule for Stretch {
     ghost extra = { λ s. in_stretch s.first s.length s.extra };
 
-    ghost after = { same_stretch };
+    // No access changes the stretch.
+    ghost after = { λ s _. s };
 
     #[inline]
     fn extra(&self, number: u32) -> u8 {

@@ -1,9 +1,10 @@
 // Piles over lent slices, and what the lender knows.
 ghost use Rattle.std.specs.Prelude.{◌≡◌, length, drop};
-ghost use Rattle.memory.specs.Memory.{cut};
+ghost use Rattle.memory.specs.Memory.{cut, Read, Written};
 ghost use Rattle.memory.specs.ByteMemory.{packed, bytes_used};
 ghost use Rattle.memory.specs.Delays.{slower};
 ghost use Rattle.memory.specs.SlowStretch.{in_stretch};
+ghost use Rattle.memory.specs.OpenRow.{row_after};
 ghost use Rattle.memory.specs.Pair.{joined};
 ghost use Rattle.memory.specs.Edits.{copy_of, copied};
 
@@ -33,6 +34,26 @@ pub fn delay_in_pile(words: &mut [u32], number: u32) -> u8
     let slow = SlowStretch::new(WordMemory::new(words), Stretch::new(16, 64, 3));
     let mut pile = OpenRow::new(slow, Row::new(7));
     pile.delay(number)
+}
+
+/// Reads a word through an open row. Then the word's row is open, or the one that was where the read is refused.
+pub fn read_in_row<M: Memory>(memory: &mut OpenRow<M>, number: u32) -> Result<u32, MemoryFault>
+    ensures below { Read M.words M.delay M.frame memory.old.below number result memory.new.below }
+    ensures row { memory.new.rule ≡ record memory.old.rule { opened = row_after (M.words memory.old.below) memory.old.rule.opened number } }
+{
+    memory.read(number)
+}
+
+/// Writes a word through a slow stretch, which stays the same stretch.
+pub fn write_in_stretch<M: Memory>(
+    memory: &mut SlowStretch<M>,
+    number: u32,
+    value: u32,
+) -> Result<(), MemoryFault>
+    ensures below { Written M.words M.delay M.frame memory.old.below number value result memory.new.below }
+    ensures stretch { memory.new.rule ≡ memory.old.rule }
+{
+    memory.write(number, value)
 }
 
 /// Copies a word in a memory over lent words. The lender then holds the copy, and past the words what was there.
