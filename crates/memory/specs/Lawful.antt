@@ -4,9 +4,6 @@ use Rattle.std.proofs.Common.{arith, length-take}
 use Rattle.std.proofs.lemmas.Bool.{le-ltb, cond-false, cond_both}
 use Rattle.memory.specs.Memory.{cut, wrap, word_list, Laws}
 use Rattle.memory.specs.SliceMemory.{slice_words, slice_delay}
-use Rattle.memory.specs.Delays.{slower}
-use Rattle.memory.specs.SlowStretch.{in_stretch, slow_words, slow_delay}
-use Rattle.memory.specs.OpenRow.{off_row, row_words, row_delay}
 use Rattle.memory.specs.Pair.{joined, pair_words, pair_delay}
 use Rattle.memory.specs.declared.memory.Memory.{Ghosts}
 use Rattle.memory.specs.declared.slice_memory.Element
@@ -41,22 +38,6 @@ slice_laws element = record {
   short = λ s n. omega arith;
   past = λ s n h. refl;
 }
-
--- the laws of a memory's words with some delays added
-module _ {S M : Type 0} (memory : Ghosts M) (below : S → M) (more : S → ℕ → ℕ) where
-  slower_laws : Laws (λ s. memory.words (below s)) (λ s. slower (memory.words (below s)) (memory.delay (below s)) (more s))
-  slower_laws = record {
-    few = λ s. memory.laws.few (below s);
-    fits = λ s. memory.laws.fits (below s);
-    short = λ s n. cond_both (nat_lt n (length (memory.words (below s)))) _ 0 (λ x. x ≤ 255) (λ e. omega arith) (λ e. omega arith);
-    past = λ s n h. cond-false (nat_lt n (length (memory.words (below s)))) _ _ (le-ltb n _ h);
-  }
-
-pub slow_laws : {M : Type 0} (below : Ghosts M) → Laws (slow_words below) (slow_delay below)
-slow_laws below = slower_laws below (λ s. s.below) (λ s. in_stretch s.first s.length s.extra)
-
-pub row_laws : {M : Type 0} (below : Ghosts M) → Laws (row_words below) (row_delay below)
-row_laws below = slower_laws below (λ s. s.below) (λ s. off_row s.extra s.row)
 
 pub pair_laws : {A B : Type 0} (first : Ghosts A) (second : Ghosts B) → Laws (pair_words first second) (pair_delay first second)
 unfolding joined

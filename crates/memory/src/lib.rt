@@ -12,10 +12,11 @@ mod slow_stretch;
 mod word_memory;
 
 pub use byte_memory::ByteMemory;
+pub use delays::{SlowRule, Slowed};
 pub use edits::{copy_word, fill};
 pub use memory::{Memory, MemoryFault};
-pub use open_row::OpenRow;
+pub use open_row::{OpenRow, Row};
 pub use pair::Pair;
 pub use slice_memory::SliceMemory;
-pub use slow_stretch::SlowStretch;
+pub use slow_stretch::{SlowStretch, Stretch};
 pub use word_memory::WordMemory;

@@ -1,94 +1,49 @@
-// A layer that adds an extra delay for the words outside of the row that is open.
-ghost use Rattle.std.specs.Prelude.{◌≡◌, None};
-ghost use Rattle.memory.specs.Delays.{slower};
-ghost use Rattle.memory.specs.Memory.{Read, Written};
-ghost use Rattle.memory.specs.OpenRow.{off_row, row_after, row_over, row_words, row_delay, row_frame};
-ghost use Rattle.memory.specs.Lawful.{row_laws};
+// The rule that the words outside of the open row are slow, and the layer with it.
+ghost use Rattle.std.specs.Prelude.{◌≡◌, ◌/◌, Some, None};
+ghost use Rattle.memory.specs.OpenRow.{off_row};
 
-use crate::delays::slower_delay;
-use crate::memory::{Memory, MemoryFault};
+use crate::delays::{SlowRule, Slowed};
 
 const ROW_WORDS: u32 = 64;
 
-#[derive(Drop)]
-pub struct OpenRow<M> {
-    below: M,
+/// A memory with an extra delay for the words outside of the row that is open.
+pub type OpenRow<M> = Slowed<M, Row>;
+
+/// `extra` more for the words of another row than that of the last access, which is open.
+#[derive(Clone, Copy)]
+pub struct Row {
     extra: u8,
-    row: Option<u32>,
+    opened: Option<u32>,
 }
 
-impl<M: Memory> OpenRow<M> {
-    /// The memory `below`, with `extra` more for the words of another row than that of the last access.
-    pub fn new(below: M, extra: u8) -> OpenRow<M>
-        ensures made { result ≡ record { below = below; extra = extra; row = None } }
-        ensures words { row_words M.Memory result ≡ M.Memory.words below }
-        ensures delay { row_delay M.Memory result ≡ slower (M.Memory.words below) (M.Memory.delay below) (λ _. extra) }
-        ensures frame { row_frame M.Memory result ≡ M.Memory.frame below }
+impl Row {
+    /// No row is open at first.
+    pub fn new(extra: u8) -> Row
+        ensures { result ≡ record { extra = extra; opened = None } }
     {
-        OpenRow {
-            below,
+        Row {
             extra,
-            row: None,
+            opened: None,
         }
     }
+}
 
-    /// The memory below.
-    pub fn into_below(self) -> M
-        ensures { result ≡ self.below }
-    {
-        let OpenRow {
-            below,
-            extra: _,
-            row: _,
-        } = self;
-        below
-    }
+impl SlowRule for Row {
+    ghost extra = { λ r. off_row r.extra r.opened };
 
-    fn extra_for(&self, number: u32) -> u8
-        ensures { result ≡ off_row self.now.extra self.now.row number }
-    {
-        match self.row {
+    // The row of the word is open.
+    ghost after = { λ r n. record r { opened = Some (n / 64) } };
+
+    #[inline]
+    fn extra(&self, number: u32) -> u8 {
+        match self.opened {
             Some(row) if row == number / ROW_WORDS => 0,
             _ => self.extra,
         }
     }
-}
 
-impl<M: Memory> Memory for OpenRow<M> {
-    ghost words = { row_words M.Memory };
-
-    ghost delay = { row_delay M.Memory };
-
-    ghost frame = { row_frame M.Memory };
-
-    ghost laws = { row_laws M.Memory };
-
-    fn size(&mut self) -> u32 {
-        self.below.size()
-    }
-
-    fn delay(&mut self, number: u32) -> u8 {
-        let extra = self.extra_for(number);
-        slower_delay(&mut self.below, number, extra)
-    }
-
-    fn read(&mut self, number: u32) -> Result<u32, MemoryFault>
-        ensures memory { Read (row_words M.Memory) (row_delay M.Memory) (row_frame M.Memory) self.old number result self.new }
-        ensures below { Read M.Memory.words M.Memory.delay M.Memory.frame self.old.below number result self.new.below }
-        ensures row { self.new ≡ row_over self.old self.new.below (row_after (M.Memory.words self.old.below) self.old.row number) }
-    {
-        let word = self.below.read(number)?;
-        self.row = Some(number / ROW_WORDS);
-        Ok(word)
-    }
-
-    fn write(&mut self, number: u32, value: u32) -> Result<(), MemoryFault>
-        ensures memory { Written (row_words M.Memory) (row_delay M.Memory) (row_frame M.Memory) self.old number value result self.new }
-        ensures below { Written M.Memory.words M.Memory.delay M.Memory.frame self.old.below number value result self.new.below }
-        ensures row { self.new ≡ row_over self.old self.new.below (row_after (M.Memory.words self.old.below) self.old.row number) }
-    {
-        self.below.write(number, value)?;
-        self.row = Some(number / ROW_WORDS);
-        Ok(())
+    #[inline]
+    fn note(&mut self, number: u32) {
+        self.opened = Some(number / ROW_WORDS);
     }
 }

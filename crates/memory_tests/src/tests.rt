@@ -1,5 +1,7 @@
 // The edges: sizes about 8,192, bytes that make no whole word, a pair that is cut, and the delays of a pile.
-use memory::{ByteMemory, Memory, OpenRow, Pair, SlowStretch, WordMemory, copy_word, fill};
+use memory::{
+    ByteMemory, Memory, OpenRow, Pair, Row, SlowStretch, Stretch, WordMemory, copy_word, fill,
+};
 use std::process::Abort;
 use std::test::Fail;
 
@@ -99,7 +101,7 @@ fn a_pile_of_all_five(rt: HostRuntime) -> Result<(), Fail> {
     let mut words = [1u32, 2, 3];
     let mut bytes = [0u8, 0, 1, 2, 9, 9, 9];
     let pair = Pair::new(WordMemory::new(&mut words), ByteMemory::new(&mut bytes));
-    let mut pile = OpenRow::new(SlowStretch::new(pair, 2, 1, 250), 7);
+    let mut pile = OpenRow::new(SlowStretch::new(pair, Stretch::new(2, 1, 250)), Row::new(7));
     let closed = [(0, 7), (1, 7), (2, 255), (3, 7), (4, 0)];
     delays(&rt, &mut pile, &closed);
     refused(&rt, &mut pile, 4)?;
@@ -118,7 +120,7 @@ fn a_pile_of_all_five(rt: HostRuntime) -> Result<(), Fail> {
 #[test]
 fn rows_of_64_words(rt: HostRuntime) -> Result<(), Fail> {
     let mut words = [0u32; 130];
-    let mut memory = OpenRow::new(WordMemory::new(&mut words), 200);
+    let mut memory = OpenRow::new(WordMemory::new(&mut words), Row::new(200));
     assert_eq!(rt; word(&mut memory, 63)?, 0);
     delays(
         &rt,
