@@ -5,7 +5,7 @@ ghost use Rattle.image.specs.Refusals.{refusal_number, refusal_text};
 use std::fmt;
 
 // The segments are numbered from 0, the lowest.
-#[derive(Clone, Copy)]
+#[derive(Clone, Copy, Debug, PartialEq, Eq)]
 pub enum ImageRefusal {
     // Under 12 or over 65,536 bytes: how many.
     Length(usize),

@@ -6,7 +6,7 @@ ghost use Rattle.memory.specs.Memory.{Loan, Laws, Asked, Read, Written};
 pub(crate) const MOST_WORDS: u32 = 8192;
 
 /// The refusal of a word number that is not below the memory's size.
-#[derive(Clone, Copy)]
+#[derive(Clone, Copy, Debug, PartialEq, Eq)]
 pub struct MemoryFault {
     pub number: u32,
     pub size: u32,

@@ -7,7 +7,7 @@ use memory::MemoryFault;
 use std::fmt;
 
 /// The operation is unassigned, the address is no multiple of four, or the memory has no word of that number.
-#[derive(Clone, Copy)]
+#[derive(Clone, Copy, Debug, PartialEq, Eq)]
 pub enum Cause {
     Unassigned,
     Unaligned,
@@ -15,7 +15,7 @@ pub enum Cause {
 }
 
 /// A cause, the address and the step that told it.
-#[derive(Clone, Copy)]
+#[derive(Clone, Copy, Debug, PartialEq, Eq)]
 pub struct CoreFault {
     pub cause: Cause,
     pub address: u32,
