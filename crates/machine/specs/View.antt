@@ -16,9 +16,9 @@ view g m = record {
   mark = m.mark;
   reset = m.reset;
   left = m.left;
-  clocks = m.clocks;
-  waits = m.waits;
-  finished = m.finished;
+  clocks = m.counts.clocks;
+  waits = m.counts.waits;
+  finished = m.counts.finished;
   delays = g.delay m.memory;
 }
 

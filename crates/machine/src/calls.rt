@@ -4,8 +4,9 @@ ghost use Rattle.run_control.specs.OneBus.{one_bus};
 ghost use Rattle.run_control.specs.Calls.{set_up, start_answer, start_state, resume_answer, resume_state, reset_answer, reset_state, register_answer, register_state, word_answer, word_state, load_answer, load_state};
 ghost use Rattle.machine.specs.View.{view, lent};
 
+use crate::counts::Counts;
 use crate::frame::Machine;
-use memory::{Memory, MemoryFault};
+use memory::Memory;
 use onebus::Core;
 use run_control::Refusal;
 
@@ -22,9 +23,7 @@ impl<M: Memory> Machine<M> {
             mark: false,
             reset: false,
             left: None,
-            clocks: 0,
-            waits: 0,
-            finished: 0,
+            counts: Counts::none(),
         }
     }
 
@@ -41,9 +40,7 @@ impl<M: Memory> Machine<M> {
         self.run = true;
         self.mark = false;
         self.left = None;
-        self.clocks = 0;
-        self.waits = 0;
-        self.finished = 0;
+        self.counts = Counts::none();
         Ok(())
     }
 
@@ -62,9 +59,7 @@ impl<M: Memory> Machine<M> {
         self.core.resume();
         self.run = true;
         self.left = None;
-        self.clocks = 0;
-        self.waits = 0;
-        self.finished = 0;
+        self.counts = Counts::none();
         Ok(())
     }
 
@@ -106,12 +101,7 @@ impl<M: Memory> Machine<M> {
         if self.run {
             return Err(Refusal::Running);
         }
-        let size = self.memory.size();
-        if number >= size {
-            return Err(Refusal::NoWord(MemoryFault { number, size }));
-        }
-        let _ = self.memory.write(number, value);
-        Ok(())
+        Ok(self.memory.write(number, value)?)
     }
 
     /// Sets the words that the image at the end of `bytes` lists. Refused while the machine runs, then as reading the image for this memory is.
@@ -123,9 +113,6 @@ impl<M: Memory> Machine<M> {
         if self.run {
             return Err(Refusal::Running);
         }
-        match image::load(&mut self.memory, bytes) {
-            Ok(()) => Ok(()),
-            Err(refusal) => Err(Refusal::Image(refusal)),
-        }
+        Ok(image::load(&mut self.memory, bytes)?)
     }
 }

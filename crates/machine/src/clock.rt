@@ -1,5 +1,5 @@
 // One clock, and the call that spends many.
-ghost use Rattle.std.specs.Prelude.{◌≡◌, ℕ, ◌+◌, ◌/◌, ◌%◌, ◌<◌, true, false, cond};
+ghost use Rattle.std.specs.Prelude.{◌≡◌, ℕ, ◌+◌, ◌/◌, ◌%◌, ◌<◌, IsTrue, true, false, cond};
 ghost use Rattle.rows.specs.Rows.{table};
 ghost use Rattle.rows.specs.Core.{micro};
 ghost use Rattle.run_control.specs.OneBus.{one_bus, outcome, fetched_from};
@@ -8,6 +8,7 @@ ghost use Rattle.run_control.specs.Calls.{counted, Clocks};
 ghost use Rattle.onebus.specs.View.{core_of};
 ghost use Rattle.machine.specs.View.{view, lent};
 
+use crate::counts::Counts;
 use crate::frame::Machine;
 use memory::Memory;
 use onebus::{Core, CoreFault, Progress};
@@ -42,30 +43,27 @@ impl<M: Memory> Machine<M> {
         }
         self.memory.delay(self.core.word_number())
     }
-}
 
-impl<M: Memory> Machine<M> {
     // The step at hand: whether it finished an instruction, or the fault and the instruction's address.
+    // Kept: a private `bool` and pair, used up in the one match of `clock`; a type of their own would only rename what the definitions tell by them.
     fn advance(&mut self) -> Result<bool, (CoreFault, u32)>
-        requires { self.old.clocks < 1000000000000 }
+        requires { self.old.counts.clocks < 1000000000000 }
         ensures answer { result ≡ told_of one_bus (outcome (micro table (core_of self.old.core) (M.Memory.words self.old.memory))) (view M.Memory self.old) }
         ensures state { view M.Memory self.new ≡ stepped one_bus (outcome (micro table (core_of self.old.core) (M.Memory.words self.old.memory))) (view M.Memory self.old) (later_delays one_bus (view M.Memory self.old) (M.Memory.delay self.new.memory)) }
         ensures lent { lent M.Memory self.new ≡ lent M.Memory self.old }
     {
         let from = fetched_from(&self.core);
-        self.clocks += 1;
+        self.counts.step();
         self.left = None;
         match self.core.step(&mut self.memory) {
-            Ok(progress) => match progress {
-                Progress::Within => Ok(false),
-                Progress::Finished { stops } => {
-                    self.finished += 1;
-                    if stops {
-                        self.run = false;
-                    }
-                    Ok(true)
+            Ok(Progress::Within) => Ok(false),
+            Ok(Progress::Finished { stops }) => {
+                self.counts.finish();
+                if stops {
+                    self.run = false;
                 }
-            },
+                Ok(true)
+            }
             Err(fault) => {
                 self.run = false;
                 self.mark = true;
@@ -78,12 +76,12 @@ impl<M: Memory> Machine<M> {
     fn counted_clocks(&self) -> u64
         ensures { result ≡ counted (view M.Memory self.now) }
     {
-        if self.reset { 0 } else { self.clocks }
+        if self.reset { 0 } else { self.counts.clocks }
     }
 
     // One clock of a running machine.
     fn tick(&mut self) -> Result<bool, (CoreFault, u32)>
-        requires run { self.old.run ≡ true }
+        requires run { IsTrue self.old.run }
         requires room { counted (view M.Memory self.old) < 1000000000000 }
         ensures answer { result ≡ told one_bus (view M.Memory self.old) }
         ensures state { view M.Memory self.new ≡ ticked one_bus (view M.Memory self.old) (M.Memory.delay self.new.memory) }
@@ -93,16 +91,13 @@ impl<M: Memory> Machine<M> {
             self.core.restart();
             self.reset = false;
             self.left = None;
-            self.clocks = 0;
-            self.waits = 0;
-            self.finished = 0;
+            self.counts = Counts::none();
             return Ok(false);
         }
         let due = self.waits_due();
         if due > 0 {
             self.left = Some(due - 1);
-            self.clocks += 1;
-            self.waits += 1;
+            self.counts.wait();
             return Ok(false);
         }
         self.advance()
@@ -123,16 +118,13 @@ impl<M: Memory> Machine<M> {
         if clocks + wanted > 1_000_000_000_000 {
             return Err(Refusal::ClocksFull { clocks, wanted });
         }
+        // Kept: a `for` over the clocks would need a third exit, where the machine stops.
         let mut spent: u64 = 0;
         let mut finished: u64 = 0;
         while self.run && spent < wanted {
             spent += 1;
             match self.tick() {
-                Ok(done) => {
-                    if done {
-                        finished += 1;
-                    }
-                }
+                Ok(done) => finished += u64::from(done),
                 Err((core, instruction)) => {
                     return Ok(Err(MachineFault {
                         core,

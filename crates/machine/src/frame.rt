@@ -1,6 +1,5 @@
 // The machine: run control around the one-bus core, over any memory.
-ghost use Rattle.std.specs.Prelude.{◌≤◌};
-
+use crate::counts::Counts;
 use onebus::Core;
 
 /// A machine over the memory `M`.
@@ -8,6 +7,7 @@ use onebus::Core;
 pub struct Machine<M> {
     pub(crate) memory: M,
     pub(crate) core: Core,
+    // Kept: `run`, `mark` and `reset` are three flip-flops, each set and cleared by itself, and the definitions name them one by one.
     pub(crate) run: bool,
     // does a fault stand?
     pub(crate) mark: bool,
@@ -15,10 +15,5 @@ pub struct Machine<M> {
     pub(crate) reset: bool,
     // the waits left of a Wait step that has begun
     pub(crate) left: Option<u8>,
-    pub(crate) clocks: u64,
-    pub(crate) waits: u64,
-    pub(crate) finished: u64,
-    ghost waited: { waits ≤ clocks },
-    ghost ended: { finished ≤ clocks },
-    ghost bounded: { clocks ≤ 1000000000000 },
+    pub(crate) counts: Counts,
 }

@@ -3,6 +3,7 @@
 
 mod calls;
 mod clock;
+mod counts;
 mod frame;
 mod performing;
 mod questions;

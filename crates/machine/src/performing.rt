@@ -2,38 +2,25 @@
 ghost use Rattle.std.specs.Prelude.{◌≡◌, map};
 ghost use Rattle.run_control.specs.OneBus.{one_bus};
 ghost use Rattle.run_control.specs.Feeding.{new_book, fed};
-ghost use Rattle.run_control.specs.Whole.{plain, Does, Comes, Agrees, Carries, Paced, call_of};
+ghost use Rattle.run_control.specs.Whole.{Does, Comes, Agrees, Carries, Paced, call_of};
 ghost use Rattle.machine.specs.View.{view, lent};
 
 use crate::frame::Machine;
 use memory::Memory;
-use run_control::{Answer, Call, Refusal, Turn};
-
-fn plainly(outcome: Result<(), Refusal>) -> Answer
-    ensures { result ≡ plain outcome }
-{
-    match outcome {
-        Ok(()) => Answer::Done,
-        Err(refusal) => Answer::Refused(refusal),
-    }
-}
+use run_control::{Answer, Call, Turn};
 
 fn act<M: Memory>(machine: &mut Machine<M>, call: Call) -> Answer
     ensures does { Does one_bus M.Memory.delay (view M.Memory machine.old) call.entry result (view M.Memory machine.new) }
     ensures lent { lent M.Memory machine.new ≡ lent M.Memory machine.old }
 {
     match call {
-        Call::Start => plainly(machine.start()),
-        Call::Resume => plainly(machine.resume()),
-        Call::Reset => plainly(machine.reset()),
-        Call::SetRegister(number, value) => plainly(machine.set_register(number, value)),
-        Call::SetWord(number, value) => plainly(machine.set_word(number, value)),
-        Call::Load(bytes) => plainly(machine.load(bytes)),
-        Call::Clock(wanted) => match machine.clock(wanted) {
-            Ok(Ok((spent, finished))) => Answer::Spent(spent, finished),
-            Ok(Err(fault)) => Answer::Faulted(fault),
-            Err(refusal) => Answer::Refused(refusal),
-        },
+        Call::Start => machine.start().into(),
+        Call::Resume => machine.resume().into(),
+        Call::Reset => machine.reset().into(),
+        Call::SetRegister(number, value) => machine.set_register(number, value).into(),
+        Call::SetWord(number, value) => machine.set_word(number, value).into(),
+        Call::Load(bytes) => machine.load(bytes).into(),
+        Call::Clock(wanted) => machine.clock(wanted).into(),
     }
 }
 
@@ -55,9 +42,8 @@ pub fn perform_all<M: Memory>(memory: M, turns: &mut [Turn]) -> Machine<M>
     ensures lent { lent M.Memory result ≡ M.Memory.frame memory }
 {
     let mut machine = Machine::set_up(memory);
-    for i in 0..turns.len() {
-        let call = turns[i].call;
-        turns[i].answer = perform(&mut machine, call);
+    for turn in turns.iter_mut() {
+        turn.answer = perform(&mut machine, turn.call);
     }
     machine
 }

@@ -12,10 +12,9 @@ impl<M: Memory> Machine<M> {
     pub fn register(&self, number: u32) -> Result<u32, Refusal>
         ensures { result ≡ register_asked (view M.Memory self.now) number }
     {
-        match self.core.register(number as usize) {
-            Some(value) => Ok(value),
-            None => Err(Refusal::NoRegister { number }),
-        }
+        self.core
+            .register(number as usize)
+            .ok_or(Refusal::NoRegister { number })
     }
 
     /// A word of the memory. That it is read may change later delays.
@@ -24,10 +23,7 @@ impl<M: Memory> Machine<M> {
         ensures state { view M.Memory self.new ≡ after_word_asked (view M.Memory self.old) number (M.Memory.delay self.new.memory) }
         ensures lent { lent M.Memory self.new ≡ lent M.Memory self.old }
     {
-        match self.memory.read(number) {
-            Ok(value) => Ok(value),
-            Err(fault) => Err(Refusal::NoWord(fault)),
-        }
+        Ok(self.memory.read(number)?)
     }
 
     /// The program counter.
@@ -66,21 +62,21 @@ impl<M: Memory> Machine<M> {
     pub fn clocks(&self) -> u64
         ensures { result ≡ (view M.Memory self.now).clocks }
     {
-        self.clocks
+        self.counts.clocks
     }
 
     /// How many of them were waits.
     pub fn waits(&self) -> u64
         ensures { result ≡ (view M.Memory self.now).waits }
     {
-        self.waits
+        self.counts.waits
     }
 
     /// The instructions finished since then.
     pub fn finished(&self) -> u64
         ensures { result ≡ (view M.Memory self.now).finished }
     {
-        self.finished
+        self.counts.finished
     }
 
     /// How many words the memory has.
@@ -105,9 +101,7 @@ impl<M: Memory> Machine<M> {
             mark: _,
             reset: _,
             left: _,
-            clocks: _,
-            waits: _,
-            finished: _,
+            counts: _,
         } = self;
         memory
     }

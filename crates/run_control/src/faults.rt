@@ -2,7 +2,7 @@
 use onebus::CoreFault;
 
 /// What the core tells, with the address of the instruction that faulted, and the clocks spent and the instructions finished in the call.
-#[derive(Clone, Copy)]
+#[derive(Clone, Copy, Debug, PartialEq, Eq)]
 pub struct MachineFault {
     pub core: CoreFault,
     pub instruction: u32,

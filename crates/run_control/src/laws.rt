@@ -3,29 +3,21 @@ ghost use Rattle.run_control.specs.OneBus.{OneBusFollows, OneBusKeepsPace, OneBu
 ghost use Rattle.run_control.specs.Examples.{WorkedRuns};
 
 /// After every list of calls the machine agrees with the book that was fed them, whatever the delays do.
-pub fn every_list_follows() -> u8
+pub fn every_list_follows()
     ensures { OneBusFollows }
-{
-    0
-}
+{}
 
 /// Two machines that are started once and then only clocked keep pace, whatever the delays of either memory do.
-pub fn machines_keep_pace() -> u8
+pub fn machines_keep_pace()
     ensures { OneBusKeepsPace }
-{
-    0
-}
+{}
 
 /// A reset on any clock leaves the registers and the words as after the last finished instruction.
-pub fn resets_leave_whole_instructions() -> u8
+pub fn resets_leave_whole_instructions()
     ensures { OneBusResets }
-{
-    0
-}
+{}
 
 /// Real programs run: lists of calls and answers that lead somewhere.
-pub fn programs_run() -> u8
+pub fn programs_run()
     ensures { WorkedRuns }
-{
-    0
-}
+{}

@@ -1,12 +1,13 @@
 // Why a call on the machine is refused.
 ghost use Rattle.std.specs.Prelude.{◌≡◌};
+ghost use Rattle.run_control.specs.declared.refusals.Refusal.TheVariants as refusals;
 ghost use Rattle.run_control.specs.Refusals.{refusal_number, reason};
 
 use image::ImageRefusal;
 use memory::MemoryFault;
 use std::fmt;
 
-#[derive(Clone, Copy)]
+#[derive(Clone, Copy, Debug, PartialEq, Eq)]
 pub enum Refusal {
     /// The machine runs.
     Running,
@@ -25,6 +26,24 @@ pub enum Refusal {
     /// The bytes are no image for this memory.
     Image(ImageRefusal),
 }
+
+impl From<MemoryFault> for Refusal {
+    ghost from_gives = { λ f r. r ≡ refusals.NoWord f };
+
+    fn from(fault: MemoryFault) -> Refusal {
+        Refusal::NoWord(fault)
+    }
+}
+
+impl From<ImageRefusal> for Refusal {
+    ghost from_gives = { λ e r. r ≡ refusals.Image e };
+
+    fn from(cause: ImageRefusal) -> Refusal {
+        Refusal::Image(cause)
+    }
+}
+
+impl std::error::Error for Refusal {}
 
 impl Refusal {
     /// The number that the refusal is told by, 1 to 13.
@@ -49,14 +68,16 @@ impl fmt::Display for Refusal {
 
     fn fmt<W: fmt::Write>(&self, f: &mut fmt::Formatter<W>) -> fmt::Result {
         match *self {
-            Refusal::Running => write!(f, "the machine is running"),
-            Refusal::FaultMark => write!(f, "a fault stands"),
-            Refusal::Stopped => write!(f, "the machine is stopped"),
+            Refusal::Running => f.write_str("the machine is running"),
+            Refusal::FaultMark => f.write_str("a fault stands"),
+            Refusal::Stopped => f.write_str("the machine is stopped"),
             Refusal::NoRegister { number } => write!(f, "there is no register {number}"),
             Refusal::NoWord(fault) => {
-                let number = fault.number;
-                let size = fault.size;
-                write!(f, "there is no word {number} in a memory of {size}")
+                write!(
+                    f,
+                    "there is no word {} in a memory of {}",
+                    fault.number, fault.size
+                )
             }
             Refusal::ClockCount { wanted } => {
                 write!(

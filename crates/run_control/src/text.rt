@@ -16,17 +16,14 @@ impl fmt::Display for Missing {
 
     fn fmt<W: fmt::Write>(&self, f: &mut fmt::Formatter<W>) -> fmt::Result {
         match self.0 {
-            Cause::Unassigned | Cause::Unaligned => write!(f, ""),
-            Cause::NoWord(fault) => {
-                let number = fault.number;
-                let size = fault.size;
-                write!(f, "number {number} size {size} ")
-            }
+            Cause::Unassigned | Cause::Unaligned => Ok(()),
+            Cause::NoWord(fault) => write!(f, "number {} size {} ", fault.number, fault.size),
         }
     }
 }
 
 // To be shown as where a fault came, and what the call did until then.
+// Kept: with these values in the one `write!` below the proof does not close (its text takes more than 200,000 steps to compute).
 #[derive(Clone, Copy)]
 struct Place(MachineFault);
 
@@ -40,11 +37,10 @@ impl fmt::Display for Place {
             spent,
             finished,
         } = self.0;
-        let address = core.address;
-        let step = core.step;
         write!(
             f,
-            "address {address} step {step} instruction {instruction} spent {spent} finished {finished}"
+            "address {} step {} instruction {instruction} spent {spent} finished {finished}",
+            core.address, core.step
         )
     }
 }
@@ -54,10 +50,10 @@ impl fmt::Display for MachineFault {
 
     fn fmt<W: fmt::Write>(&self, f: &mut fmt::Formatter<W>) -> fmt::Result {
         let cause = self.core.cause;
-        let number = cause.number();
         write!(
             f,
-            "fault {number} ({cause}) {}{}",
+            "fault {} ({cause}) {}{}",
+            cause.number(),
             Missing(cause),
             Place(*self)
         )
@@ -69,11 +65,8 @@ impl fmt::Display for Answer {
 
     fn fmt<W: fmt::Write>(&self, f: &mut fmt::Formatter<W>) -> fmt::Result {
         match *self {
-            Answer::Done => write!(f, "ok"),
-            Answer::Refused(refusal) => {
-                let number = refusal.number();
-                write!(f, "refused {number} ({refusal})")
-            }
+            Answer::Done => f.write_str("ok"),
+            Answer::Refused(refusal) => write!(f, "refused {} ({refusal})", refusal.number()),
             Answer::Spent(spent, finished) => write!(f, "spent {spent} finished {finished}"),
             Answer::Faulted(fault) => write!(f, "{fault}"),
         }

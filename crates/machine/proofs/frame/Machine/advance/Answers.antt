@@ -1,45 +1,29 @@
-use Rattle.std.proofs.Common.{Ok, Err, sym, refl, ap, ◌∙◌}
-use Rattle.rows.specs.Rows.{table}
-use Rattle.onebus.specs.View.{core_of}
-use Rattle.run_control.specs.State.{after_end}
-use Rattle.run_control.proofs.Steps.{clocked_step, waited_for}
-use Rattle.machine.specs.View.{view}
+use Rattle.std.proofs.Common.{Ok, Err, ap, ◌∙◌}
+use Rattle.machine.proofs.Steps.{a_step}
 use Rattle.machine.proofs.frame.Machine.advance.Goals as goal
 
-pub returns-in-Within : goal.returns-in-Within
-returns-in-Within g c =
-    let m = g.M.Memory in
-    let s = view m c.args.self.now in
-    let e = c.in-Ok.ensures in
-    let h = (clocked_step table s (m.delay c.step.new.memory) (Ok c.in-Ok.progress) (core_of c.step.new.self) (m.words c.step.new.memory) e.answer e.core e.words e.delays (waited_for s.core s.words c.args.self.now.core.step)).within (ap Ok c.in-Within.is) in
-    record { answer = h.0; state = h.1; lent = e.frame }
+pub returns-in-Ok-Within : goal.returns-in-Ok-Within
+returns-in-Ok-Within g c =
+    let h = (a_step g.M.Memory c.args.self.now _ c.step-2.new.self c.step-2.new.memory c.step-2.ensures).within (c.in-Ok-Within.is ∙ ap Ok c.in-Ok-Within.field-0-is) in
+    let n = c.step.ensures in
+    record { answer = h.0; state = rw (n.clocks, n.waits, n.finished) h.1; lent = c.step-2.ensures.frame }
 
 pub returns-then-stops : goal.returns-then-stops
 returns-then-stops g c =
-    let m = g.M.Memory in
-    let s = view m c.args.self.now in
-    let d = m.delay c.step.new.memory in
-    let q = core_of c.step.new.self in
-    let us = m.words c.step.new.memory in
-    let e = c.in-Ok.ensures in
-    let h = (clocked_step table s d (Ok c.in-Ok.progress) q us e.answer e.core e.words e.delays (waited_for s.core s.words c.args.self.now.core.step)).finished c.in-Finished.stops (ap Ok c.in-Finished.is) in
-    record { answer = h.0; state = ap (λ z. after_end z q us s d) (sym c.if-stops.true) ∙ h.1; lent = e.frame }
+    let h = (a_step g.M.Memory c.args.self.now _ c.step-2.new.self c.step-2.new.memory c.step-2.ensures).finished c.in-Ok-Finished.stops (c.in-Ok-Finished.is ∙ ap Ok c.in-Ok-Finished.field-0-is) in
+    let n = c.step.ensures in
+    let e = c.finish.ensures in
+    record { answer = h.0; state = rw (e.clocks, e.waits, e.finished, n.clocks, n.waits, n.finished) (rw c.if-stops.true at h.1); lent = c.step-2.ensures.frame }
 
 pub returns-else-stops : goal.returns-else-stops
 returns-else-stops g c =
-    let m = g.M.Memory in
-    let s = view m c.args.self.now in
-    let d = m.delay c.step.new.memory in
-    let q = core_of c.step.new.self in
-    let us = m.words c.step.new.memory in
-    let e = c.in-Ok.ensures in
-    let h = (clocked_step table s d (Ok c.in-Ok.progress) q us e.answer e.core e.words e.delays (waited_for s.core s.words c.args.self.now.core.step)).finished c.in-Finished.stops (ap Ok c.in-Finished.is) in
-    record { answer = h.0; state = ap (λ z. after_end z q us s d) (sym c.if-stops.false) ∙ h.1; lent = e.frame }
+    let h = (a_step g.M.Memory c.args.self.now _ c.step-2.new.self c.step-2.new.memory c.step-2.ensures).finished c.in-Ok-Finished.stops (c.in-Ok-Finished.is ∙ ap Ok c.in-Ok-Finished.field-0-is) in
+    let n = c.step.ensures in
+    let e = c.finish.ensures in
+    record { answer = h.0; state = rw (e.clocks, e.waits, e.finished, n.clocks, n.waits, n.finished) (rw c.if-stops.false at h.1); lent = c.step-2.ensures.frame }
 
 pub returns-in-Err : goal.returns-in-Err
 returns-in-Err g c =
-    let m = g.M.Memory in
-    let s = view m c.args.self.now in
-    let e = c.in-Err.ensures in
-    let h = (clocked_step table s (m.delay c.step.new.memory) (Err c.in-Err.fault) (core_of c.step.new.self) (m.words c.step.new.memory) e.answer e.core e.words e.delays (waited_for s.core s.words c.args.self.now.core.step)).faulted c.in-Err.fault refl in
-    record { answer = ap (λ x. Err (c.in-Err.fault, x)) c.fetched_from-from.ensures ∙ h.0; state = h.1; lent = e.frame }
+    let h = (a_step g.M.Memory c.args.self.now _ c.step-2.new.self c.step-2.new.memory c.step-2.ensures).faulted c.in-Err.fault c.in-Err.is in
+    let n = c.step.ensures in
+    record { answer = ap (λ x. Err (c.in-Err.fault, x)) c.fetched_from-from.ensures ∙ h.0; state = rw (n.clocks, n.waits, n.finished) h.1; lent = c.step-2.ensures.frame }
