@@ -39,18 +39,11 @@ fn run_program(rt: &HostRuntime, path: &str) -> anyhow::Result<()> {
     session.run_image(&image)
 }
 
-fn run(rt: &HostRuntime) -> anyhow::Result<()> {
-    let mut args = env::args(rt)?;
-    let _ = args.next();
-    let Some(path) = args.next() else {
-        return run_script(rt);
-    };
-    if args.next().is_some() {
-        return Err(anyhow!("usage: src_sim, with a script on standard input, or src_sim FILE"));
-    }
-    run_program(rt, path.as_str())
-}
-
 fn main(rt: HostRuntime) -> anyhow::Result<()> {
-    run(&rt)
+    let mut args = env::args(&rt)?.skip(1);
+    match (args.next(), args.next()) {
+        (None, _) => run_script(&rt),
+        (Some(path), None) => run_program(&rt, path.as_str()),
+        _ => Err(anyhow!("usage: src_sim, with a script on standard input, or src_sim FILE")),
+    }
 }

@@ -56,10 +56,9 @@ impl Session<'_> {
         };
         let _ = perform(&mut self.machine, Call::Start);
         println!(self.rt; "{}", self.run_to_end())?;
-        for number in 0u32..32 {
-            match self.machine.register(number) {
-                Ok(0) | Err(_) => {}
-                Ok(value) => println!(self.rt; "r{number} {}", Hex(value))?,
+        for (number, value) in self.registers().iter().enumerate() {
+            if *value != 0 {
+                println!(self.rt; "r{number} {}", Hex(*value))?;
             }
         }
         println!(self.rt; "{}", self.counts())?;

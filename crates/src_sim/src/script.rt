@@ -6,7 +6,6 @@ use crate::board::{Board, PLAIN};
 use crate::command::{Command, command_in};
 use crate::complaint::Complaint;
 use crate::help::tell_commands;
-use std::alloc::{AllocError, Global};
 use std::io;
 use std::io::{BufRead, BufReader, Split, Stdin};
 
@@ -16,16 +15,10 @@ pub struct Script<'a> {
     lines: Split<BufReader<Stdin>>,
 }
 
-fn words_of(heap: Global, line: &str) -> Result<Vec<&str>, AllocError> {
-    line.split_ascii_whitespace().collect(heap)
-}
-
 // The command in a line; none in a blank line and in a comment.
 fn read_line(rt: &HostRuntime, line: &[u8]) -> Result<Option<Command>, Complaint> {
-    let Ok(line) = std::str::from_utf8(line) else {
-        return Err(Complaint::NotText);
-    };
-    let words = words_of(rt.alloc(), line)?;
+    let line = std::str::from_utf8(line).map_err(|_| Complaint::NotText)?;
+    let words: Vec<&str> = line.split_ascii_whitespace().collect(rt.alloc())?;
     if words.is_empty() || line.starts_with('#') {
         return Ok(None);
     }

@@ -6,7 +6,7 @@ use crate::help::tell_commands;
 use isa::{Entry, Hex, Line};
 use machine::{Machine, perform};
 use run_control::{Answer, Call, Refusal};
-use std::fmt;
+use std::{array, fmt};
 
 #[derive(Drop)]
 pub struct Session<'a> {
@@ -59,6 +59,11 @@ impl<'a> Session<'a> {
         }
     }
 
+    // The registers, each at its number.
+    pub(crate) fn registers(&self) -> [u32; 32] {
+        array::from_fn(|number| self.machine.register(number as u32).unwrap_or(0))
+    }
+
     fn tell_state(&self) -> anyhow::Result<()> {
         let pc = Hex(self.machine.pc());
         let step = self.machine.step();
@@ -70,11 +75,9 @@ impl<'a> Session<'a> {
 
     // Four lines of eight registers.
     fn tell_registers(&self) -> anyhow::Result<()> {
-        for number in 0u32..32 {
-            if let Ok(value) = self.machine.register(number) {
-                let end = if number % 8 == 7 { '\n' } else { ' ' };
-                print!(self.rt; "r{number} {}{end}", Hex(value))?;
-            }
+        for (number, value) in self.registers().iter().enumerate() {
+            let end = if number % 8 == 7 { '\n' } else { ' ' };
+            print!(self.rt; "r{number} {}{end}", Hex(*value))?;
         }
         Ok(())
     }
@@ -103,21 +106,16 @@ impl<'a> Session<'a> {
         }
     }
 
-    fn call(&mut self, call: Call) -> anyhow::Result<()> {
-        println!(self.rt; "{}", perform(&mut self.machine, call))?;
-        Ok(())
-    }
-
     pub(crate) fn obey(&mut self, command: Command) -> anyhow::Result<()> {
         match command {
-            Command::Describe(_) => {
-                println!(self.rt; "? {}", Complaint::LateBoard)?;
-                Ok(())
+            Command::Describe(_) => println!(self.rt; "? {}", Complaint::LateBoard)?,
+            Command::Perform(call) => println!(self.rt; "{}", perform(&mut self.machine, call))?,
+            Command::Load(image) => {
+                println!(self.rt; "{}", perform(&mut self.machine, Call::Load(&image)))?
             }
-            Command::Perform(call) => self.call(call),
-            Command::Load(image) => self.call(Call::Load(&image)),
-            Command::Ask(question) => self.answer(question),
-            Command::Help => tell_commands(self.rt),
+            Command::Ask(question) => self.answer(question)?,
+            Command::Help => tell_commands(self.rt)?,
         }
+        Ok(())
     }
 }
