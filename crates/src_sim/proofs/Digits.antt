@@ -1,11 +1,13 @@
 -- Digits read one by one. Assumes nothing.
-use Rattle.std.proofs.Common.{◌≡◌, ℕ, suc, ◌+◌, ◌-◌, ◌*◌, ◌<◌, ◌≤◌, min, Bool, true, false, cond, ◌&&◌, ltb, List, [], ◌∷◌, length, get_or, take, drop, Some, None, Option, sym, refl, ap, ◌∙◌, ⊎_elim, le-mul_of_pos_right, add-one, arith, drop-cons}
+use Rattle.std.proofs.Common.{◌≡◌, ℕ, suc, ◌+◌, ◌*◌, ◌<◌, ◌≤◌, min, Bool, true, false, cond, ◌&&◌, ltb, List, [], ◌∷◌, length, get_or, drop, Some, None, Option, refl, ap, ◌∙◌, ⊎_elim, le-mul_of_pos_right, add-one, arith, drop-cons}
 use lib.Seq.{drop-length}
 use Rattle.std.specs.Str.Parse.{digits_value_after}
 use Rattle.std.specs.Char.{digit_value}
-use Rattle.std.proofs.lemmas.List.{take_rest}
 use Rattle.std.proofs.str.Laws.{order}
-use Rattle.src_sim.specs.Numbers.{digit_of, all_digits, most, numeral, hexadecimal, number_of}
+use Rattle.src_sim.specs.Numbers.{digit_of, all_digits, most, numeral}
+use Rattle.src_sim.specs.Bases.{radix_of}
+use Rattle.src_sim.specs.declared.numbers.Base.{Base}
+use Rattle.src_sim.specs.declared.numbers.Base.TheVariants.{Decimal, Hexadecimal}
 
 -- the digits cs read after those of n
 abbrev pub read_on : ℕ → ℕ → List ℕ → Option ℕ
@@ -61,8 +63,7 @@ pub no_more : (base n i : ℕ) (cs : List ℕ) → i ≡ length cs → n ≤ mos
 no_more base n i cs all fits =
     ap (λ k. read_on base n (drop k cs)) all ∙ ap (read_on base n) (drop-length cs) ∙ ap Some (omega arith)
 
--- what follows 0x is read as hexadecimal
-pub marked_number : (cs bs : List ℕ) (r : Option ℕ) (b : Bool) → bs ≡ cs → b ≡ hexadecimal bs → b ≡ true → r ≡ numeral 16 (take (length bs - 2) (drop 2 bs)) → r ≡ number_of cs
-marked_number cs bs r b same is marked e =
-    e ∙ ap (numeral 16) (take_rest bs 2) ∙ ap (λ x. numeral 16 (drop 2 x)) same
-    ∙ sym (ap (λ x. cond x (numeral 16 (drop 2 cs)) (numeral 10 cs)) (sym (ap hexadecimal same) ∙ sym is ∙ marked))
+-- a base has digits
+pub has_digits : (base : Base) → 0 < radix_of base
+has_digits Decimal = omega arith
+has_digits Hexadecimal = omega arith

@@ -1,40 +1,50 @@
 // The board: the memory that the machine is set up over.
-ghost use Rattle.std.specs.Prelude.{◌≡◌, None};
-ghost use Rattle.src_sim.specs.Boards.{described};
+ghost use Rattle.std.specs.Prelude.{◌≡◌, None, unwrap_or};
+ghost use Rattle.src_sim.specs.Boards.{described, stretch_of};
 
-use memory::{ByteMemory, OpenRow, Pair, SlowStretch, WordMemory};
+use memory::{ByteMemory, OpenRow, Pair, Row, SlowStretch, Stretch, WordMemory};
+use std::alloc::{AllocError, Global};
 
 // A command that describes a part of the board.
 #[derive(Clone, Copy)]
 pub enum BoardPart {
     Words(u32),
     Bytes(u32),
-    Slow { first: u32, length: u32, extra: u8 },
+    Slow(Stretch),
     Row(u8),
 }
 
-// A stretch of length 0 and a row with an extra of 0 add nothing.
 #[derive(Clone, Copy)]
 pub struct Board {
     pub words: u32,
     pub bytes: u32,
-    pub first: u32,
-    pub length: u32,
-    pub extra: u8,
-    pub row: u8,
+    pub slow: Option<Stretch>,
+    pub row: Option<u8>,
 }
 
 // The board where nothing is described.
 pub const PLAIN: Board = Board {
     words: 8192,
     bytes: 0,
+    slow: None,
+    row: None,
+};
+
+// A stretch that adds nothing.
+const NO_STRETCH: Stretch = Stretch {
     first: 0,
     length: 0,
     extra: 0,
-    row: 0,
 };
 
 pub type Pile<'a> = OpenRow<SlowStretch<Pair<WordMemory<'a>, ByteMemory<'a>>>>;
+
+// The words and the bytes that the memories of a board are over.
+#[derive(Drop)]
+pub struct Cells {
+    pub words: Vec<u32>,
+    pub bytes: Vec<u8>,
+}
 
 impl Board {
     // The board with one part described anew.
@@ -44,31 +54,34 @@ impl Board {
         match part {
             BoardPart::Words(words) => Board { words, ..self },
             BoardPart::Bytes(bytes) => Board { bytes, ..self },
-            BoardPart::Slow {
-                first,
-                length,
-                extra,
-            } => Board {
-                first,
-                length,
-                extra,
+            BoardPart::Slow(stretch) => Board {
+                slow: Some(stretch),
                 ..self
             },
-            BoardPart::Row(row) => Board { row, ..self },
+            BoardPart::Row(extra) => Board {
+                row: Some(extra),
+                ..self
+            },
         }
     }
 
-    // The memory of the board, over words and bytes that are lent.
+    // The cells of the board, all 0.
+    pub(crate) fn cells(self, heap: Global) -> Result<Cells, AllocError> {
+        Ok(Cells {
+            words: vec![in heap; 0u32; self.words as usize]?,
+            bytes: vec![in heap; 0u8; self.bytes as usize]?,
+        })
+    }
+
+    // The memory of the board, over words and bytes that are lent. It has both layers: what is not described adds nothing.
     pub(crate) fn pile<'a>(self, words: &'a mut [u32], bytes: &'a mut [u8]) -> Pile<'a>
         ensures words { result.below.below.first.elements.now ≡ words.old }
         ensures bytes { result.below.below.second.elements.now ≡ bytes.old }
-        ensures stretch { (result.below.first ≡ self.first) × (result.below.length ≡ self.length) × (result.below.extra ≡ self.extra) }
-        ensures row { (result.extra ≡ self.row) × (result.row ≡ None) }
+        ensures stretch { result.below.rule ≡ stretch_of self.slow }
+        ensures row { result.rule ≡ record { extra = unwrap_or self.row 0; opened = None } }
     {
         let pair = Pair::new(WordMemory::new(words), ByteMemory::new(bytes));
-        OpenRow::new(
-            SlowStretch::new(pair, self.first, self.length, self.extra),
-            self.row,
-        )
+        let slow = SlowStretch::new(pair, self.slow.unwrap_or(NO_STRETCH));
+        OpenRow::new(slow, Row::new(self.row.unwrap_or(0)))
     }
 }

@@ -1,31 +1,21 @@
 // The commands of a script.
-ghost use Rattle.std.specs.Prelude.{◌≡◌};
-ghost use Rattle.src_sim.specs.Orders.{Makes};
-ghost use Rattle.src_sim.specs.Parameters.{count_of, index_of, limited_of};
-
-use crate::board::BoardPart;
+use crate::board::{BoardPart, Stretch};
 use crate::complaint::Complaint;
-use crate::numbers::{capped, number};
+use crate::help::misspelt;
+use crate::hex_bytes::bytes_of;
+use crate::parameters::{count, delay, index, limited, value};
 use run_control::Call;
+use std::fs;
 
 #[derive(Drop)]
 pub enum Command {
     Describe(BoardPart),
-    Perform(Order),
+    // A call that has no bytes of its own.
+    Perform(Call<'static>),
+    // The bytes of an image.
+    Load(Vec<u8>),
     Ask(Question),
     Help,
-}
-
-// A call, with the bytes of its own that it loads.
-#[derive(Drop)]
-pub enum Order {
-    Start,
-    Resume,
-    Reset,
-    SetRegister(u32, u32),
-    SetWord(u32, u32),
-    Load(Vec<u8>),
-    Clock(u64),
 }
 
 #[derive(Clone, Copy)]
@@ -38,64 +28,72 @@ pub enum Question {
     List { first: u32, count: u32 },
 }
 
-impl Order {
-    pub(crate) fn call(&self) -> Call<'_>
-        ensures { Makes self.now result }
-    {
-        match self {
-            Order::Start => Call::Start,
-            Order::Resume => Call::Resume,
-            Order::Reset => Call::Reset,
-            Order::SetRegister(number, value) => Call::SetRegister(*number, *value),
-            Order::SetWord(number, value) => Call::SetWord(*number, *value),
-            Order::Load(bytes) => Call::Load(bytes.as_slice()),
-            Order::Clock(wanted) => Call::Clock(*wanted),
-        }
+fn board_part(words: &[&str]) -> Result<Option<BoardPart>, Complaint> {
+    Ok(Some(match words {
+        ["words", n] => BoardPart::Words(limited(n, 65_536)?),
+        ["bytes", n] => BoardPart::Bytes(limited(n, 262_144)?),
+        ["slow", first, length, extra] => BoardPart::Slow(Stretch {
+            first: index(first)?,
+            length: index(length)?,
+            extra: delay(extra)?,
+        }),
+        ["row", extra] => BoardPart::Row(delay(extra)?),
+        _ => return Ok(None),
+    }))
+}
+
+fn call_in(words: &[&str]) -> Result<Option<Call<'static>>, Complaint> {
+    Ok(Some(match words {
+        ["start"] => Call::Start,
+        ["resume"] => Call::Resume,
+        ["reset"] => Call::Reset,
+        ["set-register", i, v] => Call::SetRegister(index(i)?, value(v)?),
+        ["set-word", i, v] => Call::SetWord(index(i)?, value(v)?),
+        ["clock", k] => Call::Clock(count(k)?),
+        _ => return Ok(None),
+    }))
+}
+
+fn image_in(rt: &HostRuntime, words: &[&str]) -> Result<Option<Vec<u8>>, Complaint> {
+    Ok(Some(match words {
+        ["image", bytes @ ..] if !bytes.is_empty() => bytes_of(rt.alloc(), bytes)?,
+        ["load", path] => fs::read(rt, path)?,
+        _ => return Ok(None),
+    }))
+}
+
+fn question_in(words: &[&str]) -> Result<Option<Question>, Complaint> {
+    Ok(Some(match words {
+        ["register", i] => Question::Register(index(i)?),
+        ["word", i] => Question::Word(index(i)?),
+        ["line", i] => Question::Line(index(i)?),
+        ["state"] => Question::State,
+        ["registers"] => Question::Registers,
+        ["list", first, count] => Question::List {
+            first: index(first)?,
+            count: index(count)?,
+        },
+        _ => return Ok(None),
+    }))
+}
+
+// The command that the words of a line make.
+pub(crate) fn command_in(rt: &HostRuntime, words: &[&str]) -> Result<Command, Complaint> {
+    if let Some(part) = board_part(words)? {
+        return Ok(Command::Describe(part));
     }
-}
-
-// A number of any size: too large a one is left to the call to refuse.
-pub(crate) fn count(text: &str) -> Result<u64, Complaint>
-    ensures { result ≡ count_of text.now }
-{
-    match number(text) {
-        Some(number) => Ok(number),
-        None => Err(Complaint::NoNumber),
+    if let Some(call) = call_in(words)? {
+        return Ok(Command::Perform(call));
     }
-}
-
-// The number of a register or of a word, or how many words.
-pub(crate) fn index(text: &str) -> Result<u32, Complaint>
-    ensures { result ≡ index_of text.now }
-{
-    match number(text) {
-        Some(number) => Ok(capped(number)),
-        None => Err(Complaint::NoNumber),
+    if let Some(image) = image_in(rt, words)? {
+        return Ok(Command::Load(image));
     }
-}
-
-// A number up to `most`.
-pub(crate) fn limited(text: &str, most: u32) -> Result<u32, Complaint>
-    ensures { result ≡ limited_of most text.now }
-{
-    match number(text) {
-        Some(number) if number > u64::from(most) => Err(Complaint::TooLarge(most)),
-        Some(number) => Ok(number as u32),
-        None => Err(Complaint::NoNumber),
+    if let Some(question) = question_in(words)? {
+        return Ok(Command::Ask(question));
     }
-}
-
-pub(crate) fn value(text: &str) -> Result<u32, Complaint>
-    ensures { result ≡ limited_of 4294967295 text.now }
-{
-    limited(text, u32::MAX)
-}
-
-pub(crate) fn delay(text: &str) -> Result<u8, Complaint>
-    ensures { result ≡ limited_of 255 text.now }
-{
-    match limited(text, 255) {
-        Ok(number) => Ok(number as u8),
-        Err(complaint) => Err(complaint),
+    match words {
+        ["help"] => Ok(Command::Help),
+        [name, ..] => Err(misspelt(name)),
+        [] => Err(Complaint::NoCommand),
     }
 }

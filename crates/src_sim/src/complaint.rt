@@ -23,6 +23,12 @@ impl From<AllocError> for Complaint {
     }
 }
 
+impl From<io::Error> for Complaint {
+    fn from(error: io::Error) -> Complaint {
+        Complaint::File(error)
+    }
+}
+
 impl<T: Drop> From<AllocFailed<T>> for Complaint {
     fn from(_refused: AllocFailed<T>) -> Complaint {
         Complaint::NoMemory

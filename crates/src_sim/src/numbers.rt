@@ -1,50 +1,54 @@
 // The numbers of a script.
-ghost use Rattle.std.specs.Prelude.{◌≡◌, ◌+◌, ◌*◌, ◌≤◌, min, T, length};
-ghost use Rattle.src_sim.specs.Numbers.{digit_of, most, hexadecimal, numeral as numeral_of, number_of};
+ghost use Rattle.std.specs.Prelude.{◌≡◌, ◌+◌, ◌*◌, min};
+ghost use Rattle.src_sim.specs.Numbers.{digit_of, most, numeral as numeral_of, number_of};
+ghost use Rattle.src_sim.specs.Bases.{radix_of};
+
+#[derive(Clone, Copy)]
+pub enum Base {
+    Decimal,
+    Hexadecimal,
+}
+
+impl Base {
+    fn radix(self) -> u32
+        ensures { result ≡ radix_of self }
+    {
+        match self {
+            Base::Decimal => 10,
+            Base::Hexadecimal => 16,
+        }
+    }
+}
 
 // The value of a digit of the base.
-fn digit_in(base: u32, byte: u8) -> Option<u32>
-    requires low { 2 ≤ base }
-    requires high { base ≤ 16 }
-    ensures { result ≡ digit_of base byte }
+fn digit_in(base: Base, byte: u8) -> Option<u32>
+    ensures { result ≡ digit_of (radix_of base) byte }
 {
-    (byte as char).to_digit(base)
+    (byte as char).to_digit(base.radix())
 }
 
 // The number with one more digit, or the largest of 64 bits where it is larger.
-fn with_digit(number: u64, base: u32, digit: u32) -> u64
-    ensures { result ≡ min most (number * base + digit) }
+fn with_digit(number: u64, base: Base, digit: u32) -> u64
+    ensures { result ≡ min most (number * radix_of base + digit) }
 {
     number
-        .saturating_mul(u64::from(base))
+        .saturating_mul(u64::from(base.radix()))
         .saturating_add(u64::from(digit))
 }
 
 // The number that the digits write, or the largest of 64 bits where it is larger.
-fn numeral(base: u32, digits: &[u8]) -> Option<u64>
-    requires low { 2 ≤ base }
-    requires high { base ≤ 16 }
-    ensures { result ≡ numeral_of base digits.now }
+fn numeral(base: Base, digits: &[u8]) -> Option<u64>
+    ensures { result ≡ numeral_of (radix_of base) digits.now }
 {
     if digits.is_empty() {
         return None;
     }
     let mut number = 0u64;
     for byte in digits {
-        match digit_in(base, *byte) {
-            Some(digit) => number = with_digit(number, base, digit),
-            None => return None,
-        }
+        let digit = digit_in(base, *byte)?;
+        number = with_digit(number, base, digit);
     }
     Some(number)
-}
-
-// Whether `0x` stands first.
-fn marked(bytes: &[u8]) -> bool
-    ensures value { result ≡ hexadecimal bytes.now }
-    ensures long { T result → 2 ≤ length bytes.now }
-{
-    bytes.len() >= 2 && bytes[0] == b'0' && bytes[1] == b'x'
 }
 
 // A number in decimal, or in hexadecimal after `0x`.
@@ -52,10 +56,9 @@ pub(crate) fn number(text: &str) -> Option<u64>
     ensures { result ≡ number_of text.now }
 {
     let bytes = text.as_bytes();
-    if marked(bytes) {
-        numeral(16, &bytes[2..])
-    } else {
-        numeral(10, bytes)
+    match bytes.strip_prefix(b"0x") {
+        Some(digits) => numeral(Base::Hexadecimal, digits),
+        None => numeral(Base::Decimal, bytes),
     }
 }
 
@@ -63,9 +66,5 @@ pub(crate) fn number(text: &str) -> Option<u64>
 pub(crate) fn capped(number: u64) -> u32
     ensures { result ≡ min 4294967295 number }
 {
-    if number < 4_294_967_295 {
-        number as u32
-    } else {
-        u32::MAX
-    }
+    number.min(u64::from(u32::MAX)) as u32
 }
