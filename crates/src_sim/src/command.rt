@@ -1,9 +1,10 @@
 // The commands of a script.
-use crate::board::{BoardPart, Stretch};
+use crate::board::BoardPart;
 use crate::complaint::Complaint;
 use crate::help::misspelt;
 use crate::hex_bytes::bytes_of;
 use crate::parameters::{count, delay, index, limited, value};
+use memory::Stretch;
 use run_control::Call;
 use std::fs;
 
