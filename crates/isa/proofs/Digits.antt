@@ -19,21 +19,28 @@ zeros (suc k) acc = zeros k (48 ∷ acc) ∙ shifted k
     shifted zero = refl
     shifted (suc j) = ap (λ l. 48 ∷ l) (shifted j)
 
--- zeros before the digits of n, up to k digits
-abbrev filled : ℕ → List ℕ → List ℕ → List ℕ
-filled k acc ds = replicate (k + length acc - length ds) 48 ++ ds
+-- the digits ds, and zeros before them where they are fewer than m
+abbrev filled : ℕ → List ℕ → List ℕ
+filled m ds = replicate (m - length ds) 48 ++ ds
 
-pads : (k j n : ℕ) (acc : List ℕ) → n < 16 ^ suc k → k < j → filled (suc k) acc (digits_onto j 16 true n acc) ≡ onto (suc k) n acc
-pads k zero n acc fits room = absurd (omega arith)
-pads zero (suc j) n acc fits room =
-    ap (λ b. filled 1 acc (cond b (digit_glyph true (n % 16) ∷ acc) (digits_onto j 16 true (n / 16) (digit_glyph true (n % 16) ∷ acc)))) (eq-eqb (n / 16) 0 (omega arith))
-    ∙ ap (λ p. replicate p 48 ++ (digit_glyph true (n % 16) ∷ acc)) {x = 1 + length acc - suc (length acc)} {y = 0} (omega arith)
-pads (suc k) (suc j) n acc fits room =
-    cond_both (eqb (n / 16) 0) _ _ (λ ds. filled (suc (suc k)) acc ds ≡ onto (suc (suc k)) n acc)
-    (λ e. ap (λ p. replicate p 48 ++ (digit_glyph true (n % 16) ∷ acc)) {x = suc (suc k) + length acc - suc (length acc)} {y = suc k} (omega arith)
-    ∙ sym (zeros (suc k) (digit_glyph true (n % 16) ∷ acc)) ∙ ap (λ m. onto (suc k) m (digit_glyph true (n % 16) ∷ acc)) (sym (eqb-true (n / 16) 0 e)))
-    (λ e. ap (λ p. replicate (p - length (digits_onto j 16 true (n / 16) (digit_glyph true (n % 16) ∷ acc))) 48 ++ digits_onto j 16 true (n / 16) (digit_glyph true (n % 16) ∷ acc)) {x = suc (suc k) + length acc} {y = suc k + suc (length acc)} (omega arith)
-    ∙ pads k j (n / 16) (digit_glyph true (n % 16) ∷ acc) (omega (arith, pow-suc 16 (suc k))) (omega arith))
+module _ (n : ℕ) (acc : List ℕ) where
+  abbrev next : List ℕ
+  next = digit_glyph true (n % 16) ∷ acc
+
+  -- where no digit is left, zeros are
+  ends : (k m : ℕ) → m ≡ suc k + length acc → eqb (n / 16) 0 ≡ true → filled m next ≡ onto k (n / 16) next
+  ends k m e z =
+      ap (λ p. replicate p 48 ++ next) {x = m - length next} {y = k} (omega arith)
+      ∙ sym (zeros k next) ∙ ap (λ q. onto k q next) (sym (eqb-true (n / 16) 0 z))
+
+fills : (k j n m : ℕ) (acc : List ℕ) → n < 16 ^ suc k → k < j → m ≡ suc k + length acc → filled m (digits_onto j 16 true n acc) ≡ onto (suc k) n acc
+fills k zero n m acc fits room e = absurd (omega arith)
+fills zero (suc j) n m acc fits room e =
+    cond_both (eqb (n / 16) 0) _ _ (λ ds. filled m ds ≡ onto 1 n acc) (ends n acc 0 m e)
+    (λ f. let t = eq-eqb (n / 16) 0 (omega arith) in cc)
+fills (suc k) (suc j) n m acc fits room e =
+    cond_both (eqb (n / 16) 0) _ _ (λ ds. filled m ds ≡ onto (suc (suc k)) n acc) (ends n acc (suc k) m e)
+    (λ f. fills k j (n / 16) m (next n acc) (omega (arith, pow-suc 16 (suc k))) (omega arith) (omega arith))
 
 eight : (w : ℕ) → onto 8 w [] ≡ hex_text w
 eight w = simp (div-div-eq-div-mul, div-one)
@@ -44,4 +51,4 @@ spelled w = refl
 
 pub hex_word : (w : ℕ) → w < 2 ^ 32 → padded_integral (format_spec 32 0 4 8 (2 ^ 64 - 1)) false [] (digits 16 true w) ≡ hex_text w
 unfolding padded_integral char_count
-hex_word w fits = rw (sub-zero, sub-zero, append-nil, spelled) (pads 7 64 w [] fits (omega arith) ∙ eight w)
+hex_word w fits = rw (sub-zero, sub-zero, append-nil, spelled) (fills 7 64 w 8 [] fits (omega arith) refl ∙ eight w)

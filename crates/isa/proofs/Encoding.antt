@@ -1,8 +1,8 @@
 -- The fields that a line shows determine the word. Assumes nothing.
 use Rattle.std.proofs.Common.{◌≡◌, ℕ, ◌+◌, ◌-◌, ◌*◌, ◌/◌, ◌%◌, ◌^◌, ◌<◌, Bool, true, false, cond, eqb, ltb, pos, negsuc, Some, None, Option, sym, refl, ap, ◌∙◌, subst, div-one, arith}
 use Rattle.std.proofs.lemmas.Bool.{eqb-true, cond_both, not-false, or_parts}
-use Rattle.std.proofs.lemmas.Nat.{mod-pow-add}
-use Rattle.isa.specs.Fields.{bits, op_of, ra_of, rb_of, rc_of, c1_of, c2_of, count_of, when_of}
+use Rattle.std.proofs.lemmas.Nat.{mod-pow-add, mod_below, pow_pos}
+use Rattle.isa.specs.Fields.{bits, extended, op_of, ra_of, rb_of, rc_of, c1_of, c2_of, count_of, when_of}
 use Rattle.isa.specs.Operations.{Op, operation}
 use Rattle.isa.specs.Operations.Mode.{displaced, relative}
 use Rattle.isa.specs.Operations.Op.{nop, stop, br, brl, unassigned, transfer, binary, immediate, unary, shift}
@@ -56,21 +56,17 @@ coded k =
     (coded_at k 31 _ _ (λ e. e) tt))))))))))))))))))))))
 
 -- a constant that a field holds, put back into the field
-within_17 : (w : ℕ) → within 17 (c2_of w) ≡ w % 2 ^ 17
-within_17 w = cond_both (ltb (w % 2 ^ 17) (2 ^ 16)) (pos (w % 2 ^ 17)) (negsuc (2 ^ 17 - 1 - w % 2 ^ 17)) (λ z. within 17 z ≡ w % 2 ^ 17) (λ e. refl) (λ e. omega arith)
-
-within_22 : (w : ℕ) → within 22 (c1_of w) ≡ w % 2 ^ 22
-within_22 w = cond_both (ltb (w % 2 ^ 22) (2 ^ 21)) (pos (w % 2 ^ 22)) (negsuc (2 ^ 22 - 1 - w % 2 ^ 22)) (λ z. within 22 z ≡ w % 2 ^ 22) (λ e. refl) (λ e. omega arith)
+put_back : (width w : ℕ) → within width (extended width w) ≡ w % 2 ^ width
+put_back width w =
+    cond_both (ltb (w % 2 ^ width) (2 ^ (width - 1))) _ _ (λ z. within width z ≡ w % 2 ^ width)
+    (λ e. refl) (λ e. omega (arith, mod_below w (2 ^ width) (pow_pos width)))
 
 low_bits : (k w : ℕ) → bits 0 k w ≡ w % 2 ^ k
 low_bits k w = ap (λ n. n % 2 ^ k) (div-one w)
 
--- the low twelve bits in two fields
-low_3 : (w : ℕ) → bits 0 12 w ≡ bits 3 9 w * 2 ^ 3 + when_of w
-low_3 w = rw (low_bits 12 w) (mod-pow-add w 9 3)
-
-low_5 : (w : ℕ) → bits 0 12 w ≡ bits 5 7 w * 2 ^ 5 + count_of w
-low_5 w = rw (low_bits 12 w) (mod-pow-add w 7 5)
+-- the low bits in two fields
+split : (j k w : ℕ) → bits 0 (j + k) w ≡ bits k j w * 2 ^ k + w % 2 ^ k
+split j k w = rw (low_bits (j + k) w) (mod-pow-add w j k)
 
 module _ (w : ℕ) (fits : w < 2 ^ 32) where
   high : op_of w ≡ w / 2 ^ 27
@@ -82,6 +78,13 @@ module _ (w : ℕ) (fits : w < 2 ^ 32) where
 
   whole_17 : packed (op_of w) (ra_of w) (rb_of w) 0 (w % 2 ^ 17) ≡ w
   whole_17 = rw high (omega arith)
+
+  -- with a constant
+  with_c1 : (o : ℕ) → op_of w ≡ o → packed o (ra_of w) 0 0 (within 22 (c1_of w)) ≡ w
+  with_c1 o e = let f = put_back 22 w in let g = whole_22 in cc
+
+  with_c2 : (o b : ℕ) → op_of w ≡ o → rb_of w ≡ b → packed o (ra_of w) b 0 (within 17 (c2_of w)) ≡ w
+  with_c2 o b e f = let g = put_back 17 w in let h = whole_17 in cc
 
   regrouped : (p m n x : ℕ) → x ≡ m + n → p + 0 + x ≡ w → p + m + n ≡ w
   regrouped p m n x e f = omega arith
@@ -124,21 +127,20 @@ module _ (w : ℕ) (fits : w < 2 ^ 32) where
   back stop e = back_clean _ i.Stop (λ s. bare 31 e s)
   back br e =
       back_clean _ _ (λ s. let z = or_parts _ _ s in
-      repacked _ _ _ _ _ e (unset 22 5 z.0) refl refl (omega (arith, low_3 w, unset 3 9 z.1)))
-  back brl e = back_clean _ _ (λ s. repacked _ _ _ _ _ e refl refl refl (omega (arith, low_3 w, unset 3 9 s)))
+      repacked _ _ _ _ _ e (unset 22 5 z.0) refl refl (omega (arith, split 9 3 w, unset 3 9 z.1)))
+  back brl e = back_clean _ _ (λ s. repacked _ _ _ _ _ e refl refl refl (omega (arith, split 9 3 w, unset 3 9 s)))
   back unassigned e = back_none
   back (transfer t displaced) e =
       cond_both (eqb (rb_of w) 0) _ _ (λ x. Back (formed (Some x) w))
-      (λ z. back_some _ (let f = within_17 w in let g = whole_17 in let h = eqb-true (rb_of w) 0 z in cc))
-      (λ z. back_some _ (let f = within_17 w in let g = whole_17 in cc))
-  back (transfer t relative) e = back_some _ (let f = within_22 w in let g = whole_22 in cc)
+      (λ z. back_some _ (with_c2 _ _ e (eqb-true (rb_of w) 0 z))) (λ z. back_some _ (with_c2 _ _ e refl))
+  back (transfer t relative) e = back_some _ (with_c1 _ e)
   back (binary f) e = back_clean _ _ (λ s. repacked _ _ _ _ _ e refl refl refl (unset 0 12 s))
-  back (immediate f) e = back_some _ (let f = within_17 w in let g = whole_17 in cc)
+  back (immediate f) e = back_some _ (with_c2 _ _ e refl)
   back (unary f) e = back_clean _ _ (λ s. let z = or_parts _ _ s in repacked _ _ _ _ _ e refl (unset 17 5 z.0) refl (unset 0 12 z.1))
   back (shift f) e =
       cond_both (eqb (count_of w) 0) _ _ (λ x. Back (formed (Some x) w))
-      (λ z. back_clean _ _ (λ s. repacked (shift_code f) _ _ _ 0 e refl refl refl (omega (arith, low_5 w, unset 5 7 s, eqb-true (count_of w) 0 z))))
-      (λ z. back_clean _ _ (λ s. let y = or_parts _ _ s in repacked (shift_code f) _ _ 0 (count_of w) e refl refl (unset 12 5 y.0) (omega (arith, low_5 w, unset 5 7 y.1))))
+      (λ z. back_clean _ _ (λ s. repacked (shift_code f) _ _ _ 0 e refl refl refl (omega (arith, split 7 5 w, unset 5 7 s, eqb-true (count_of w) 0 z))))
+      (λ z. back_clean _ _ (λ s. let y = or_parts _ _ s in repacked (shift_code f) _ _ 0 (count_of w) e refl refl (unset 12 5 y.0) (omega (arith, split 7 5 w, unset 5 7 y.1))))
 
   pub encodes : Encodes w
   unfolding Back

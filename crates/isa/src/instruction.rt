@@ -1,7 +1,7 @@
 // A decoded instruction: the form of its line, with its fields by name and its constants as signed numbers.
 use crate::operation::{Binary, Immediate, Shift, Transfer, Unary};
 
-#[derive(Clone, Copy)]
+#[derive(Clone, Copy, Debug, PartialEq, Eq)]
 pub enum Instruction {
     Nop,
     Stop,

@@ -10,7 +10,7 @@ use std::alloc::{AllocError, Global};
 use std::fmt;
 
 // A word, to be shown as eight capital hexadecimal digits.
-#[derive(Clone, Copy)]
+#[derive(Clone, Copy, Debug, PartialEq, Eq)]
 pub struct Hex(pub u32);
 
 impl fmt::Display for Hex {
@@ -30,7 +30,7 @@ fn form(word: u32) -> Option<Instruction>
 }
 
 // A word, to be shown as its line.
-#[derive(Clone, Copy)]
+#[derive(Clone, Copy, Debug, PartialEq, Eq)]
 pub struct Line(pub u32);
 
 impl fmt::Display for Line {

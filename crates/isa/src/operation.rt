@@ -1,7 +1,7 @@
 // The operations of the core, by what they have in common.
 
 // Loads, stores and addresses: ld, st and la, and relative to the program counter ldr, str and lar.
-#[derive(Clone, Copy)]
+#[derive(Clone, Copy, Debug, PartialEq, Eq)]
 pub enum Transfer {
     Load,
     Store,
@@ -9,7 +9,7 @@ pub enum Transfer {
 }
 
 // Operations on two registers.
-#[derive(Clone, Copy)]
+#[derive(Clone, Copy, Debug, PartialEq, Eq)]
 pub enum Binary {
     Add,
     Sub,
@@ -18,7 +18,7 @@ pub enum Binary {
 }
 
 // Operations on a register and a constant.
-#[derive(Clone, Copy)]
+#[derive(Clone, Copy, Debug, PartialEq, Eq)]
 pub enum Immediate {
     Addi,
     Andi,
@@ -26,13 +26,13 @@ pub enum Immediate {
 }
 
 // Operations on one register.
-#[derive(Clone, Copy)]
+#[derive(Clone, Copy, Debug, PartialEq, Eq)]
 pub enum Unary {
     Neg,
     Not,
 }
 
-#[derive(Clone, Copy)]
+#[derive(Clone, Copy, Debug, PartialEq, Eq)]
 pub enum Shift {
     Shr,
     Shra,

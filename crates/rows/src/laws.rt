@@ -5,35 +5,31 @@ ghost use Rattle.rows.specs.Rules.{EveryStep, EveryCode, gates, selects, functio
 ghost use Rattle.rows.specs.declared.signal.Signal.TheVariants.{RIn, Write, Stop};
 
 // The steps of one instruction are the book's clocks, and end as its instruction does, with the whole core as defined.
-pub fn rows_refine() -> u8
+pub fn rows_refine()
     ensures { Refines }
 {
-    0
 }
 
 // Over whole runs: the book's k instructions are the sum of their clocks in steps.
-pub fn runs_alike() -> u8
+pub fn runs_alike()
     ensures { RunsAlike }
 {
-    0
 }
 
 // An instruction that finishes takes 4 to 39 clocks.
-pub fn clocks_bounded() -> u8
+pub fn clocks_bounded()
     ensures { FinishesWithin 4 39 }
 {
-    0
 }
 
 // Under any control store only the end of an instruction, or a fault, leads to T 0.
-pub fn steps_move_on() -> u8
+pub fn steps_move_on()
     ensures { MovesOn }
 {
-    0
 }
 
 // The rules that every step of our control store keeps, each by one test over all 256 control words.
-pub fn rules_stand() -> u8
+pub fn rules_stand()
     ensures one_gate { EveryStep (one_at_most gates) }
     ensures one_select { EveryStep (one_at_most selects) }
     ensures one_function { EveryStep (one_at_most functions) }
@@ -44,5 +40,4 @@ pub fn rules_stand() -> u8
     ensures loops_in_six { EveryStep goes_to_six }
     ensures every_row_ends { EveryCode ends_by_seven }
 {
-    0
 }

@@ -1,5 +1,5 @@
 // The control signals of the one-bus core, in the order of their bits in a control word: the first is bit 0.
-#[derive(Clone, Copy)]
+#[derive(Clone, Copy, Debug, PartialEq, Eq)]
 pub enum Signal {
     // What drives the bus: PC, MD, C, a register, a register with R0 as 0, and the constants of IR.
     PcOut,
