@@ -4,7 +4,7 @@ ghost use Rattle.image.specs.Reading.{walk};
 
 use crate::walk::Body;
 
-#[derive(Clone, Copy)]
+#[derive(Clone, Copy, Debug, PartialEq, Eq)]
 pub struct Image<'a> {
     pub(crate) body: Body<'a>,
     // Its segments are read, and none is refused.

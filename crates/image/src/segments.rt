@@ -8,7 +8,7 @@ use crate::part::ImagePart;
 use std::ops::Range;
 
 // Holds the image, and the numbers of the segments that are left.
-#[derive(Drop)]
+#[derive(Debug, Drop)]
 pub struct Segments<'a> {
     pub(crate) image: Image<'a>,
     pub(crate) numbers: Range<u32>,

@@ -8,7 +8,7 @@ use crate::part::ImagePart;
 use crate::refusal::ImageRefusal;
 
 // The bytes of all segments of an image, their number, and the size of the memory that they are for.
-#[derive(Clone, Copy)]
+#[derive(Clone, Copy, Debug, PartialEq, Eq)]
 pub(crate) struct Body<'a> {
     pub(crate) bytes: &'a [u8],
     pub(crate) count: u32,

@@ -6,7 +6,7 @@ ghost use Rattle.image.specs.Views.{segment_of, words_left};
 use crate::part::ImagePart;
 
 // Holds the bytes of the words that are left.
-#[derive(Clone, Copy)]
+#[derive(Debug, Drop)]
 pub struct Words<'a> {
     pub(crate) rest: &'a [u8],
 }
