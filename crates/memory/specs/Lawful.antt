@@ -1,4 +1,5 @@
 -- Proofs that what each memory means keeps the laws: a reader need not believe anything here. Assumes nothing.
+-- Kept: a rule of the toolchain needs them in specs/, since a ghost member may cite nothing of proofs/.
 use Rattle.std.specs.Prelude.{ℕ, zero, suc, ◌^◌, ◌<◌, ◌≤◌, List, [], ◌∷◌, ◌++◌, map, length, take, nat_lt, slice_index, refl}
 use Rattle.std.proofs.Common.{arith, length-take}
 use Rattle.std.proofs.lemmas.Bool.{le-ltb, cond-false, cond_both}
@@ -9,7 +10,7 @@ use Rattle.memory.specs.SlowStretch.{in_stretch, slow_words, slow_delay}
 use Rattle.memory.specs.OpenRow.{off_row, row_words, row_delay}
 use Rattle.memory.specs.Pair.{joined, pair_words, pair_delay}
 use Rattle.memory.specs.declared.memory.Memory.{Ghosts}
-use Rattle.memory.specs.declared.slice_memory.Element
+use Rattle.memory.specs.declared.element.Element
 
 cut_few : (ws : List ℕ) → length (cut ws) ≤ 8192
 cut_few ws = omega (arith, length-take 8192 ws)
