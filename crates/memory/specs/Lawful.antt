@@ -34,6 +34,7 @@ append_fits [] ys g h n = h n
 append_fits (x ∷ xs) ys g h zero = g 0
 append_fits (x ∷ xs) ys g h (suc n) = append_fits xs ys (λ k. g (suc k)) h n
 
+-- the laws of words that are cut and wrapped, with no delays
 pub slice_laws : {T : Type 0} (element : Element.Ghosts T) → Laws (slice_words element) (slice_delay element)
 unfolding word_list
 slice_laws element = record {

@@ -10,7 +10,7 @@ pub(crate) trait Element: Copy {
     // What lies past the elements that a memory over them uses.
     ghost rest: { List Self → List ℕ };
 
-    /// Nothing but the fact. Each element of a slice is known to fit its type, but not in a function that is generic in it.
+    /// Nothing but the fact. Kept: no proof of a function that is generic in the elements knows that they fit, and `new` is one.
     fn all_fit(elements: &[Self])
         ensures { word_list (held elements.now) ≡ cut (held elements.now) };
 
