@@ -10,7 +10,7 @@ use Rattle.std.proofs.lemmas.Nat.{from_be_bytes-to_be_bytes_4}
 use Rattle.std.proofs.lemmas.Bool.{cases_eq, cases_lt}
 use Rattle.memory.specs.ByteMemory.{packed_word, packed, bytes_used}
 use Rattle.memory.specs.Memory.{word_list}
-use Rattle.memory.proofs.Lists.{words_length, words_set}
+use Rattle.memory.proofs.Lists.{words_length, words_read, words_set}
 
 -- the bytes with word number n replaced
 abbrev pub put : List ℕ → ℕ → ℕ → List ℕ
@@ -61,12 +61,21 @@ chunk_at (suc k) (suc n) bs h =
     let e : 4 + 4 * n ≡ 4 * suc n = omega arith in
     chunk_at k n (drop 4 bs) (omega arith) ∙ ap (take 4) (drop-drop (4 * n) 4 bs ∙ ap (λ m. drop m bs) e)
 
-module _ (k n : ℕ) (bs : List ℕ) (here : n < k) where
-  chunk_byte : (i j : ℕ) → i < 4 → 4 * n + i ≡ j → get_or (get_or (first_chunks 4 k bs) n []) i 0 ≡ get_or bs j 0
-  chunk_byte i j h e = ap (λ (l : List ℕ). get_or l i 0) (chunk_at k n bs here) ∙ get_or-take 4 _ i 0 h ∙ get_or-drop (4 * n) bs i 0 ∙ ap (λ m. get_or bs m 0) e
+chunk_byte : (k n i j : ℕ) (bs : List ℕ) → n < k → i < 4 → 4 * n + i ≡ j → get_or (get_or (first_chunks 4 k bs) n []) i 0 ≡ get_or bs j 0
+chunk_byte k n i j bs here h e =
+    ap (λ (l : List ℕ). get_or l i 0) (chunk_at k n bs here) ∙ get_or-take 4 _ i 0 h ∙ get_or-drop (4 * n) bs i 0 ∙ ap (λ m. get_or bs m 0) e
 
-  pub chunk_word : from_be_bytes w32 (get_or (first_chunks 4 k bs) n []) ≡ packed_word bs n
-  chunk_word = omega (arith, chunk_byte 0 (4 * n) (omega arith) (omega arith), chunk_byte 1 (4 * n + 1) (omega arith) refl, chunk_byte 2 (4 * n + 2) (omega arith) refl, chunk_byte 3 (4 * n + 3) (omega arith) refl)
+-- a word as the code reads it, from the bytes in chunks
+pub chunk_word : (bs : List ℕ) (n : ℕ) (chunks : List (List ℕ)) → chunks ≡ first_chunks 4 (length bs / 4) bs → (r : ℕ) → n < length (word_list (packed bs)) → r < 2 ^ 32
+    → r ≡ from_be_bytes w32 (get_or chunks n []) → r ≡ get_or (word_list (packed bs)) n 0
+chunk_word bs n chunks is r there fits e =
+    let k = length bs / 4 in
+    let here : n < k = omega (arith, words_length (packed bs), packed_length bs) in
+    let at : (i j : ℕ) → i < 4 → 4 * n + i ≡ j → get_or (get_or chunks n []) i 0 ≡ get_or bs j 0 =
+    λ i j h d. ap (λ (l : List (List ℕ)). get_or (get_or l n []) i 0) is ∙ chunk_byte k n i j bs here h d in
+    let word : r ≡ packed_word bs n =
+    omega (arith, e, at 0 (4 * n) (omega arith) (omega arith), at 1 (4 * n + 1) (omega arith) refl, at 2 (4 * n + 2) (omega arith) refl, at 3 (4 * n + 3) (omega arith) refl) in
+    words_read (packed bs) n r there fits (word ∙ sym (packed_get_or bs n here))
 
 module _ (bs : List ℕ) (n v : ℕ) (within : 4 * n + 4 ≤ length bs) where
   put_length : length (put bs n v) ≡ length bs

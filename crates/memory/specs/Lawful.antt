@@ -1,4 +1,5 @@
 -- Proofs that what each memory means keeps the laws: a reader need not believe anything here. Assumes nothing.
+-- Kept: a rule of the toolchain needs them in specs/, since a ghost member may cite nothing of proofs/.
 use Rattle.std.specs.Prelude.{ℕ, zero, suc, ◌^◌, ◌<◌, ◌≤◌, List, [], ◌∷◌, ◌++◌, map, length, take, nat_lt, slice_index, refl}
 use Rattle.std.proofs.Common.{arith, length-take}
 use Rattle.std.proofs.lemmas.Bool.{le-ltb, cond-false, cond_both}
@@ -6,7 +7,7 @@ use Rattle.memory.specs.Memory.{cut, wrap, word_list, Laws}
 use Rattle.memory.specs.SliceMemory.{slice_words, slice_delay}
 use Rattle.memory.specs.Pair.{joined, pair_words, pair_delay}
 use Rattle.memory.specs.declared.memory.Memory.{Ghosts}
-use Rattle.memory.specs.declared.slice_memory.Element
+use Rattle.memory.specs.declared.element.Element
 
 cut_few : (ws : List ℕ) → length (cut ws) ≤ 8192
 cut_few ws = omega (arith, length-take 8192 ws)
@@ -30,6 +31,7 @@ append_fits [] ys g h n = h n
 append_fits (x ∷ xs) ys g h zero = g 0
 append_fits (x ∷ xs) ys g h (suc n) = append_fits xs ys (λ k. g (suc k)) h n
 
+-- the laws of words that are cut and wrapped, with no delays
 pub slice_laws : {T : Type 0} (element : Element.Ghosts T) → Laws (slice_words element) (slice_delay element)
 unfolding word_list
 slice_laws element = record {

@@ -1,7 +1,7 @@
 -- What a memory over a slice means. Assumes nothing.
 use Rattle.std.specs.Prelude.{ℕ, List}
 use Rattle.memory.specs.Memory.{word_list, Loan, loan_of}
-use Rattle.memory.specs.declared.slice_memory.Element.{Ghosts}
+use Rattle.memory.specs.declared.element.Element.{Ghosts}
 use Rattle.memory.specs.declared.slice_memory.SliceMemory.{SliceMemory}
 
 module _ {T : Type 0} (element : Ghosts T) where

@@ -1,8 +1,9 @@
 // A memory over the caller's bytes, four a word, high byte first.
 ghost use Rattle.memory.specs.ByteMemory.{packed, past_bytes};
 
+use crate::element::Element;
 use crate::memory::capped;
-use crate::slice_memory::{Element, SliceMemory};
+use crate::slice_memory::SliceMemory;
 
 /// The memory of the first 8,192 whole words of a slice of bytes.
 pub type ByteMemory<'a> = SliceMemory<'a, u8>;

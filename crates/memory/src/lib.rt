@@ -4,6 +4,7 @@
 mod byte_memory;
 mod delays;
 mod edits;
+mod element;
 mod memory;
 mod open_row;
 mod pair;

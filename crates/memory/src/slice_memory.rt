@@ -1,36 +1,11 @@
 // A memory over the caller's slice, whose elements are words, or parts of words.
-ghost use Rattle.std.specs.Prelude.{◌≡◌, ℕ, ◌<◌, ◌≤◌, List, length, slice_index, slice_set};
-ghost use Rattle.memory.specs.Memory.{cut, word_list, loan_of};
+ghost use Rattle.std.specs.Prelude.{◌≡◌};
+ghost use Rattle.memory.specs.Memory.{cut, loan_of};
+ghost use Rattle.memory.specs.SliceMemory.{slice_words, slice_delay, slice_frame};
+ghost use Rattle.memory.specs.Lawful.{slice_laws};
 
+use crate::element::Element;
 use crate::memory::{Memory, MemoryFault, admit};
-
-/// What a slice is made of that holds words. No method is called from outside of this crate.
-pub(crate) trait Element: Copy {
-    // The words that some elements hold.
-    ghost held: { List Self → List ℕ };
-
-    // What lies past the elements that a memory over them uses.
-    ghost rest: { List Self → List ℕ };
-
-    /// Nothing but the fact: the elements of a slice fit, which a function that is generic in them does not know.
-    fn all_fit(elements: &[Self])
-        ensures { word_list (held elements.now) ≡ cut (held elements.now) };
-
-    /// How many words there are.
-    fn count(elements: &[Self]) -> u32
-        ensures { result ≡ length (word_list (held elements.now)) };
-
-    /// The word with the number, which is there.
-    fn word(elements: &[Self], number: u32) -> u32
-        requires { number < length (word_list (held elements.now)) }
-        ensures { result ≡ slice_index (word_list (held elements.now)) number };
-
-    /// Replaces that word.
-    fn put(elements: &mut [Self], number: u32, value: u32)
-        requires { number < length (word_list (held elements.old)) }
-        ensures words { word_list (held elements.new) ≡ slice_set (word_list (held elements.old)) number value }
-        ensures rest { rest elements.new ≡ rest elements.old };
-}
 
 #[derive(Drop)]
 pub struct SliceMemory<'a, T> {
@@ -38,8 +13,6 @@ pub struct SliceMemory<'a, T> {
 }
 
 impl<'a, T: Element> SliceMemory<'a, T> {
-    ghost use Rattle.memory.specs.SliceMemory.{slice_words, slice_delay, slice_frame};
-
     /// The memory of the first 8,192 words that `elements` hold.
     pub fn new(elements: &'a mut [T]) -> SliceMemory<'a, T>
         ensures lent { result.elements.now ≡ elements.old }
@@ -52,6 +25,7 @@ impl<'a, T: Element> SliceMemory<'a, T> {
         SliceMemory { elements }
     }
 
+    // Behind a `&self` the elements are known to be those of the field.
     fn elements(&self) -> &[T]
         ensures { result.now ≡ self.now.elements.now }
     {
@@ -60,9 +34,6 @@ impl<'a, T: Element> SliceMemory<'a, T> {
 }
 
 impl<'a, T: Element> Memory for SliceMemory<'a, T> {
-    ghost use Rattle.memory.specs.SliceMemory.{slice_words, slice_delay, slice_frame};
-    ghost use Rattle.memory.specs.Lawful.{slice_laws};
-
     ghost words = { slice_words T.Element };
 
     ghost delay = { slice_delay T.Element };

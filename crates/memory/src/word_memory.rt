@@ -1,8 +1,9 @@
 // A memory over the caller's list of words.
 ghost use Rattle.std.specs.Prelude.{drop};
 
+use crate::element::Element;
 use crate::memory::capped;
-use crate::slice_memory::{Element, SliceMemory};
+use crate::slice_memory::SliceMemory;
 
 /// The memory of the first 8,192 of a slice's words.
 pub type WordMemory<'a> = SliceMemory<'a, u32>;
