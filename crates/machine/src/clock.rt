@@ -103,6 +103,7 @@ impl<M: Memory> Machine<M> {
         self.advance()
     }
 
+    // Kept: a result in a result, as a call is first accepted or refused, and one that is accepted ends by itself or by a fault; one flat type would be `Answer` again, with a `Done` that no clock call gives.
     /// Spends so many clocks, or fewer where the machine stops or faults: the clocks spent and the instructions finished, or the fault. Refused while the machine is stopped, then unless 1 to 1,000,000 are wanted, then where the count of clocks would pass 10^12.
     pub fn clock(&mut self, wanted: u64) -> Result<Result<(u64, u64), MachineFault>, Refusal>
         ensures clocks { Clocks one_bus M.Memory.delay (view M.Memory self.old) wanted result (view M.Memory self.new) }

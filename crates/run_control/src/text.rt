@@ -8,6 +8,7 @@ use onebus::Cause;
 use std::fmt;
 
 // To be shown as the number and the size that a fault tells of a word that is not there; as nothing for the other causes.
+// Kept: the text of a `MachineFault` by three writes of its own, or by one with all its values, in place of `Missing` and `Place`, does not prove (`returns-clause-writes` stays open).
 #[derive(Clone, Copy)]
 struct Missing(Cause);
 
@@ -23,7 +24,6 @@ impl fmt::Display for Missing {
 }
 
 // To be shown as where a fault came, and what the call did until then.
-// Kept: with these values in the one `write!` below the proof does not close (its text takes more than 200,000 steps to compute).
 #[derive(Clone, Copy)]
 struct Place(MachineFault);
 

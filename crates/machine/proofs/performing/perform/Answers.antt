@@ -3,5 +3,5 @@ use Rattle.run_control.proofs.OneBus.{one_bus_facts}
 use Rattle.run_control.proofs.Whole as whole
 use Rattle.machine.proofs.performing.perform.Goals as goal
 
-pub returns : goal.returns
-returns g c = record { does = c.act.ensures.does; carries = whole.carries one_bus one_bus_facts g.M.Memory.delay g.M.Memory.laws.short _ _ _ _ c.act.ensures.does; lent = c.act.ensures.lent }
+pub returns-clause-carries : goal.returns-clause-carries
+returns-clause-carries g c = whole.carries one_bus one_bus_facts g.M.Memory.delay g.M.Memory.laws.short _ _ _ _ c.act.ensures.does

@@ -1,4 +1,4 @@
-use Rattle.std.proofs.Common.{◌≡◌, ◌+◌, ◌≤◌, cond, [], ◌∷◌, ◌++◌, ◌∙◌, subst, arith}
+use Rattle.std.proofs.Common.{◌≡◌, ◌+◌, ◌≤◌, cond, [], ◌∷◌, ◌++◌, ◌∙◌, arith}
 use Rattle.run_control.specs.Calls.{counted}
 use Rattle.run_control.specs.OneBus.{one_bus}
 use Rattle.run_control.proofs.OneBus.{one_bus_facts}
@@ -26,17 +26,14 @@ loop-self-preserved g c =
       lent = c.tick.ensures.lent ∙ so.lent;
     }
 
-pub returns-in-Err : goal.returns-in-Err
-returns-in-Err g c =
+pub returns-in-Err-clause-clocks : goal.returns-in-Err-clause-clocks
+returns-in-Err-clause-clocks g c =
     let m = g.M.Memory in
     let s = view m c.args.self.now in
     let t = view m c.loop-self.self in
     let u = view m c.tick.new.self in
     let x = c.tick.new.self.memory in
     let so = c.loop-self.invariant in
-    let room : counted s + c.args.wanted ≤ 1000000000000 = subst (λ n. n + c.args.wanted ≤ 1000000000000) c.counted_clocks-clocks.ensures (omega arith) in
-    record {
-      clocks = goes one_bus one_bus_facts m.delay s c.args.wanted u _ (so.sofar.0 ++ x ∷ []) c.if-not-self.false c.if-wanted-eq0.false c.if-wanted-gt1000000.false room
-          (spends_fault one_bus one_bus_facts m.delay s t _ _ so.sofar.0 so.sofar.1 u x c.args.wanted (c.in-Err.core, c.in-Err.instruction) c.loop-self-test.true c.tick.ensures.state c.in-Err.ensures.answer c.if-spent-wanted.true);
-      lent = c.tick.ensures.lent ∙ so.lent;
-    }
+    let room : counted s + c.args.wanted ≤ 1000000000000 = rw (← c.counted_clocks-clocks.ensures) (omega arith) in
+    goes one_bus one_bus_facts m.delay s c.args.wanted u _ (so.sofar.0 ++ x ∷ []) c.if-not-self.false c.if-wanted-eq0.false c.if-wanted-gt1000000.false room
+    (spends_fault one_bus one_bus_facts m.delay s t _ _ so.sofar.0 so.sofar.1 u x c.args.wanted (c.in-Err.core, c.in-Err.instruction) c.loop-self-test.true c.tick.ensures.state c.in-Err.ensures.answer c.if-spent-wanted.true)
