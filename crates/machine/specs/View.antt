@@ -3,14 +3,13 @@ use Rattle.std.specs.Prelude.{List}
 use Rattle.memory.specs.Memory.{Loan}
 use Rattle.memory.specs.declared.memory.Memory.{Ghosts}
 use Rattle.rows.specs.Core as bus
-use Rattle.onebus.specs.View.{core_of}
 use Rattle.run_control.specs.State.{State}
 use Rattle.machine.specs.declared.frame.Machine.{Machine}
 
 -- g holds what the memory means
 abbrev pub view : {X : Type 0} → Ghosts X → Machine X → State bus.Core
 view g m = record {
-  core = core_of m.core;
+  core = m.core;
   words = g.words m.memory;
   run = m.run;
   mark = m.mark;

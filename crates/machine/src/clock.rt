@@ -5,7 +5,7 @@ ghost use Rattle.rows.specs.Core.{micro};
 ghost use Rattle.run_control.specs.OneBus.{one_bus, outcome, fetched_from};
 ghost use Rattle.run_control.specs.State.{tick as ticked, told, told_of, stepped, later_delays, pause};
 ghost use Rattle.run_control.specs.Calls.{counted, Clocks};
-ghost use Rattle.onebus.specs.View.{core_of};
+ghost use Rattle.onebus.specs.View.{Fits};
 ghost use Rattle.machine.specs.View.{view, lent};
 
 use crate::counts::Counts;
@@ -16,7 +16,8 @@ use run_control::{MachineFault, Refusal};
 
 // From where the instruction under way was fetched.
 fn fetched_from(core: &Core) -> u32
-    ensures { result ≡ fetched_from (core_of core.now) }
+    ensures from { result ≡ fetched_from core.now }
+    ensures fits { Fits core.now }
 {
     if core.step_number() < 2 {
         core.pc()
@@ -48,8 +49,8 @@ impl<M: Memory> Machine<M> {
     // Kept: a private `bool` and pair, used up in the one match of `clock`; a type of their own would only rename what the definitions tell by them.
     fn advance(&mut self) -> Result<bool, (CoreFault, u32)>
         requires { self.old.counts.clocks < 1000000000000 }
-        ensures answer { result ≡ told_of one_bus (outcome (micro table (core_of self.old.core) (M.Memory.words self.old.memory))) (view M.Memory self.old) }
-        ensures state { view M.Memory self.new ≡ stepped one_bus (outcome (micro table (core_of self.old.core) (M.Memory.words self.old.memory))) (view M.Memory self.old) (later_delays one_bus (view M.Memory self.old) (M.Memory.delay self.new.memory)) }
+        ensures answer { result ≡ told_of one_bus (outcome (micro table self.old.core (M.Memory.words self.old.memory))) (view M.Memory self.old) }
+        ensures state { view M.Memory self.new ≡ stepped one_bus (outcome (micro table self.old.core (M.Memory.words self.old.memory))) (view M.Memory self.old) (later_delays one_bus (view M.Memory self.old) (M.Memory.delay self.new.memory)) }
         ensures lent { lent M.Memory self.new ≡ lent M.Memory self.old }
     {
         let from = fetched_from(&self.core);

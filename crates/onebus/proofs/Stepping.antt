@@ -1,25 +1,20 @@
 -- A step of the code is the step that is defined, over any memory. Assumes nothing.
-use Rattle.std.proofs.Common.{◌≡◌, ℕ, ◌/◌, ◌≤◌, Bool, true, false, cond, ◌&&◌, ltb, List, length, set, IsErrAnd, Ok, Err, Result, sym, refl, ap, ◌∙◌, subst}
-use Rattle.std.proofs.lemmas.List.{set_past}
-use Rattle.std.proofs.lemmas.Result.{err_from_is_err_and}
-use Rattle.std.proofs.lemmas.Bool.{ltb-false}
+use Rattle.std.proofs.Common.{◌≡◌, ℕ, Bool, true, false, cond, ◌&&◌, List, length, Ok, Err, Result, sym, refl, ap, ◌∙◌, subst}
 use Rattle.isa.specs.Book.{Access, access}
 use Rattle.isa.specs.Book.Access.{fit, unfit}
-use Rattle.rows.specs.declared.signal.Signal.TheVariants.{Write, Stop, End}
+use Rattle.rows.specs.declared.signal.Signal.TheVariants.{Stop, End}
 use Rattle.rows.specs.Signals.{gives}
 use Rattle.rows.specs.Core as model
 use Rattle.rows.specs.Core.{Outcome, bus, stored, at_step, met, touches, held, written, closed, carried_out, allowed, addressed, conditional, assigned, rowless, execute}
 use Rattle.rows.specs.Core.Outcome.{more, done, failed}
-use Rattle.memory.specs.Memory.{fault_of, Written}
-use Rattle.memory.specs.declared.memory.MemoryFault.{MemoryFault}
 use Rattle.memory.specs.declared.memory.Memory.{Ghosts}
 use Rattle.onebus.specs.declared.fault.Cause.{Cause}
-use Rattle.onebus.specs.declared.fault.Cause.TheVariants.{Unassigned, NoWord}
+use Rattle.onebus.specs.declared.fault.Cause.TheVariants.{Unassigned}
 use Rattle.onebus.specs.declared.fault.CoreFault.{CoreFault}
 use Rattle.onebus.specs.declared.progress.Progress.{Progress}
 use Rattle.onebus.specs.declared.progress.Progress.TheVariants.{Within, Finished}
 use Rattle.onebus.specs.Faults.{cause_of}
-use Rattle.onebus.specs.Steps.{core_after, words_after, answer_of, progress_of, fits, uses_word, Stepped, Writes, access_of, access_answer, Accesses}
+use Rattle.onebus.specs.Steps.{core_after, words_after, answer_of, progress_of, fits, uses_word, Stepped, access_of, access_answer, Accesses}
 
 -- an answer that is a refusal is none that is not
 abbrev Refusal : {X : Type 0} → {E : Type 0} → Result X E → Type 0

@@ -120,6 +120,8 @@ impl Core {
         }
     }
 
+    // Kept: a struct of the control word and the bus would be made once, in `carry_out`, and taken apart in each function below.
+
     /// PC after the step.
     fn next_pc(&self, word: ControlWord, bus: u32) -> u32
         ensures { result ≡ (if gives word.0 PcIn then bus else (if gives word.0 ConPcIn then (if self.now.con then bus else self.now.pc) else self.now.pc)) }

@@ -4,6 +4,7 @@ ghost use Rattle.onebus.specs.declared.fault.Cause.TheVariants.{NoWord};
 ghost use Rattle.onebus.specs.Faults.{number_of, cause_text, fault_text};
 
 use memory::MemoryFault;
+use std::error::Error;
 use std::fmt;
 
 /// The operation is unassigned, the address is no multiple of four, or the memory has no word of that number.
@@ -73,3 +74,7 @@ impl fmt::Display for CoreFault {
         )
     }
 }
+
+impl Error for Cause {}
+
+impl Error for CoreFault {}

@@ -154,6 +154,7 @@ static CONTROL_STORE: [u64; 256] = [
 ];
 
 /// The 256 control words, by code * 8 + step.
+#[tactic(auto, unfolding(rows::specs::Rows::table))]
 pub fn control_store() -> &'static [u64; 256]
     ensures { result.now ≡ table }
 {
@@ -164,6 +165,5 @@ pub fn control_store() -> &'static [u64; 256]
 pub fn control_word(code: u8, step: u8) -> Option<ControlWord>
     ensures { result ≡ word_in_store code step }
 {
-    (code < 32 && step < 8)
-        .then(|| ControlWord(control_store()[code as usize * 8 + step as usize]))
+    (code < 32 && step < 8).then(|| ControlWord(control_store()[code as usize * 8 + step as usize]))
 }

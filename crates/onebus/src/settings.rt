@@ -63,6 +63,7 @@ impl Core {
         }
     }
 
+    // Kept: a type for register numbers would be made at both calls, each of which knows the bound, and read here alone.
     pub(crate) fn put(&mut self, i: usize, value: u32)
         requires { i < 32 }
         ensures { self.new ≡ with_register self.old i value }
