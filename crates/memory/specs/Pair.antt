@@ -1,5 +1,5 @@
 -- What a pair of memories means. Assumes nothing.
-use Rattle.std.specs.Prelude.{ℕ, ◌-◌, ◌<◌, ◌≤◌, cond, List, ◌++◌, length, nat_lt}
+use Rattle.std.specs.Prelude.{ℕ, ◌-◌, ◌<◌, ◌≤◌, if◌then◌else◌, List, ◌++◌, length, nat_lt}
 use Rattle.memory.specs.Memory.{cut, Loan, Same}
 use Rattle.memory.specs.declared.memory.Memory.{Ghosts}
 use Rattle.memory.specs.declared.pair.Pair.{Pair}
@@ -10,7 +10,7 @@ joined xs ys = cut (xs ++ ys)
 
 -- the delay of each of them is that of the part that has the word, d of xs and e of ys; from the size on there is none
 abbrev pub joined_delay : List ℕ → List ℕ → (ℕ → ℕ) → (ℕ → ℕ) → ℕ → ℕ
-joined_delay xs ys d e n = cond (nat_lt n (length (joined xs ys))) (cond (nat_lt n (length xs)) (d n) (e (n - length xs))) 0
+joined_delay xs ys d e n = if nat_lt n (length (joined xs ys)) then (if nat_lt n (length xs) then d n else e (n - length xs)) else 0
 
 module _ {A B : Type 0} (first : Ghosts A) (second : Ghosts B) where
   abbrev pub pair_words : Pair A B → List ℕ

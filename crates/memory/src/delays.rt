@@ -23,6 +23,7 @@ pub trait SlowRule: Drop {
         ensures { self.new ≡ after self.old number };
 }
 
+/// A memory with the delays of the one below and the extra of a rule.
 #[derive(Drop)]
 pub struct Slowed<M, R> {
     below: M,
@@ -30,12 +31,12 @@ pub struct Slowed<M, R> {
 }
 
 impl<M: Memory, R: SlowRule> Slowed<M, R> {
-    /// The memory `below`, with the rule's extra for the words that it makes slow.
+    /// The memory `below`, with the rule's extra added to its delays.
     pub fn new(below: M, rule: R) -> Slowed<M, R>
         ensures made { result ≡ record { below = below; rule = rule } }
-        ensures words { slowed_words M.Memory result ≡ M.Memory.words below }
-        ensures delay { slowed_delay M.Memory R.SlowRule.extra result ≡ slower (M.Memory.words below) (M.Memory.delay below) (R.SlowRule.extra rule) }
-        ensures frame { slowed_frame M.Memory result ≡ M.Memory.frame below }
+        ensures words { slowed_words M.Memory result ≡ M.words below }
+        ensures delay { slowed_delay M.Memory R.extra result ≡ slower (M.words below) (M.delay below) (R.extra rule) }
+        ensures frame { slowed_frame M.Memory result ≡ M.frame below }
     {
         Slowed { below, rule }
     }
@@ -52,11 +53,11 @@ impl<M: Memory, R: SlowRule> Slowed<M, R> {
 impl<M: Memory, R: SlowRule> Memory for Slowed<M, R> {
     ghost words = { slowed_words M.Memory };
 
-    ghost delay = { slowed_delay M.Memory R.SlowRule.extra };
+    ghost delay = { slowed_delay M.Memory R.extra };
 
     ghost frame = { slowed_frame M.Memory };
 
-    ghost laws = { let below = M.Memory.laws in Prim.search rules };
+    ghost laws = { let below = M.laws in Prim.search rules };
 
     fn size(&mut self) -> u32 {
         self.below.size()
@@ -68,9 +69,9 @@ impl<M: Memory, R: SlowRule> Memory for Slowed<M, R> {
     }
 
     fn read(&mut self, number: u32) -> Result<u32, MemoryFault>
-        ensures memory { Read (slowed_words M.Memory) (slowed_delay M.Memory R.SlowRule.extra) (slowed_frame M.Memory) self.old number result self.new }
-        ensures below { Read M.Memory.words M.Memory.delay M.Memory.frame self.old.below number result self.new.below }
-        ensures rule { self.new.rule ≡ rule_after R.SlowRule.after (M.Memory.words self.old.below) self.old.rule number }
+        ensures memory { Read (slowed_words M.Memory) (slowed_delay M.Memory R.extra) (slowed_frame M.Memory) self.old number result self.new }
+        ensures below { Read M.words M.delay M.frame self.old.below number result self.new.below }
+        ensures rule { self.new.rule ≡ rule_after R.after (M.words self.old.below) self.old.rule number }
     {
         let word = self.below.read(number)?;
         self.rule.note(number);
@@ -78,9 +79,9 @@ impl<M: Memory, R: SlowRule> Memory for Slowed<M, R> {
     }
 
     fn write(&mut self, number: u32, value: u32) -> Result<(), MemoryFault>
-        ensures memory { Written (slowed_words M.Memory) (slowed_delay M.Memory R.SlowRule.extra) (slowed_frame M.Memory) self.old number value result self.new }
-        ensures below { Written M.Memory.words M.Memory.delay M.Memory.frame self.old.below number value result self.new.below }
-        ensures rule { self.new.rule ≡ rule_after R.SlowRule.after (M.Memory.words self.old.below) self.old.rule number }
+        ensures memory { Written (slowed_words M.Memory) (slowed_delay M.Memory R.extra) (slowed_frame M.Memory) self.old number value result self.new }
+        ensures below { Written M.words M.delay M.frame self.old.below number value result self.new.below }
+        ensures rule { self.new.rule ≡ rule_after R.after (M.words self.old.below) self.old.rule number }
     {
         self.below.write(number, value)?;
         self.rule.note(number);

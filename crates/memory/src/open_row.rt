@@ -9,7 +9,7 @@ const ROW_WORDS: u32 = 64;
 /// A memory with an extra delay for the words outside of the row that is open.
 pub type OpenRow<M> = Slowed<M, Row>;
 
-/// `extra` more for the words of another row than that of the last access, which is open.
+/// What is added for a word outside of the open row, and that row. An accepted access opens the row of its word.
 #[derive(Clone, Copy)]
 pub struct Row {
     extra: u8,
@@ -17,7 +17,7 @@ pub struct Row {
 }
 
 impl Row {
-    /// No row is open at first.
+    /// `extra` more for the words of another row than that of the last access. At first no row is open.
     pub fn new(extra: u8) -> Row
         ensures { result ≡ record { extra = extra; opened = None } }
     {

@@ -16,9 +16,9 @@ impl<A: Memory, B: Memory> Pair<A, B> {
     /// The words of `first`, and after them those of `second`, cut at 8,192.
     pub fn new(first: A, second: B) -> Pair<A, B>
         ensures made { result ≡ record { first = first; second = second } }
-        ensures words { pair_words A.Memory B.Memory result ≡ joined (A.Memory.words first) (B.Memory.words second) }
-        ensures delay { pair_delay A.Memory B.Memory result ≡ joined_delay (A.Memory.words first) (B.Memory.words second) (A.Memory.delay first) (B.Memory.delay second) }
-        ensures frame { pair_frame A.Memory B.Memory result ≡ A.Memory.frame first ++ B.Memory.frame second }
+        ensures words { pair_words A.Memory B.Memory result ≡ joined (A.words first) (B.words second) }
+        ensures delay { pair_delay A.Memory B.Memory result ≡ joined_delay (A.words first) (B.words second) (A.delay first) (B.delay second) }
+        ensures frame { pair_frame A.Memory B.Memory result ≡ A.frame first ++ B.frame second }
     {
         Pair { first, second }
     }
@@ -33,10 +33,10 @@ impl<A: Memory, B: Memory> Pair<A, B> {
 
     /// How many words the first has, and how many there are.
     fn sizes(&mut self) -> (u32, u32)
-        ensures front { result.0 ≡ length (A.Memory.words self.old.first) }
+        ensures front { result.0 ≡ length (A.words self.old.first) }
         ensures whole { result.1 ≡ length (pair_words A.Memory B.Memory self.old) }
-        ensures first { Same A.Memory.words A.Memory.delay A.Memory.frame self.old.first self.new.first }
-        ensures second { Same B.Memory.words B.Memory.delay B.Memory.frame self.old.second self.new.second }
+        ensures first { Same A.words A.delay A.frame self.old.first self.new.first }
+        ensures second { Same B.words B.delay B.frame self.old.second self.new.second }
     {
         let front = self.first.size();
         let back = self.second.size();
@@ -71,7 +71,7 @@ impl<A: Memory, B: Memory> Memory for Pair<A, B> {
 
     fn read(&mut self, number: u32) -> Result<u32, MemoryFault>
         ensures memory { Read (pair_words A.Memory B.Memory) (pair_delay A.Memory B.Memory) (pair_frame A.Memory B.Memory) self.old number result self.new }
-        ensures parts { Reached A.Memory B.Memory self.old self.new number (Read A.Memory.words A.Memory.delay A.Memory.frame self.old.first number result self.new.first) (λ n. Read B.Memory.words B.Memory.delay B.Memory.frame self.old.second n result self.new.second) }
+        ensures parts { Reached A.Memory B.Memory self.old self.new number (Read A.words A.delay A.frame self.old.first number result self.new.first) (λ n. Read B.words B.delay B.frame self.old.second n result self.new.second) }
     {
         let (front, size) = self.sizes();
         admit(number, size)?;
@@ -84,7 +84,7 @@ impl<A: Memory, B: Memory> Memory for Pair<A, B> {
 
     fn write(&mut self, number: u32, value: u32) -> Result<(), MemoryFault>
         ensures memory { Written (pair_words A.Memory B.Memory) (pair_delay A.Memory B.Memory) (pair_frame A.Memory B.Memory) self.old number value result self.new }
-        ensures parts { Reached A.Memory B.Memory self.old self.new number (Written A.Memory.words A.Memory.delay A.Memory.frame self.old.first number value result self.new.first) (λ n. Written B.Memory.words B.Memory.delay B.Memory.frame self.old.second n value result self.new.second) }
+        ensures parts { Reached A.Memory B.Memory self.old self.new number (Written A.words A.delay A.frame self.old.first number value result self.new.first) (λ n. Written B.words B.delay B.frame self.old.second n value result self.new.second) }
     {
         let (front, size) = self.sizes();
         admit(number, size)?;

@@ -7,7 +7,7 @@ use crate::delays::{SlowRule, Slowed};
 /// A memory with an extra delay for the words of one stretch.
 pub type SlowStretch<M> = Slowed<M, Stretch>;
 
-/// `extra` more for the words from the number `first` on, `length` of them.
+/// The stretch of `length` words from the number `first` on, and what is added for each of them.
 #[derive(Clone, Copy)]
 pub struct Stretch {
     pub first: u32,
@@ -16,6 +16,7 @@ pub struct Stretch {
 }
 
 impl Stretch {
+    /// `extra` more for the words from the number `first` on, `length` of them.
     pub fn new(first: u32, length: u32, extra: u8) -> Stretch
         ensures { result ≡ record { first = first; length = length; extra = extra } }
     {
