@@ -1,8 +1,8 @@
 -- The fields that a line shows determine the word. Assumes nothing.
-use Rattle.std.proofs.Common.{◌≡◌, ℕ, ◌+◌, ◌-◌, ◌*◌, ◌/◌, ◌%◌, ◌^◌, ◌<◌, Bool, true, false, cond, eqb, ltb, pos, negsuc, Some, None, Option, sym, refl, ap, ◌∙◌, subst, div-one, arith}
+use Rattle.std.proofs.Common.{◌≡◌, ℕ, ◌+◌, ◌-◌, ◌*◌, ◌/◌, ◌%◌, ◌^◌, ◌<◌, Bool, true, false, cond, eqb, ltb, Some, None, Option, sym, refl, ap, ◌∙◌, subst, div-one, arith}
 use Rattle.std.proofs.lemmas.Bool.{eqb-true, cond_both, not-false, or_parts}
 use Rattle.std.proofs.lemmas.Nat.{mod-pow-add, mod_below, pow_pos}
-use Rattle.isa.specs.Fields.{bits, extended, op_of, ra_of, rb_of, rc_of, c1_of, c2_of, count_of, when_of}
+use Rattle.isa.specs.Fields.{bits, extended, op_of, ra_of, rb_of, rc_of, c1_of, c2_of, count_of}
 use Rattle.isa.specs.Operations.{Op, operation}
 use Rattle.isa.specs.Operations.Mode.{displaced, relative}
 use Rattle.isa.specs.Operations.Op.{nop, stop, br, brl, unassigned, transfer, binary, immediate, unary, shift}
@@ -26,34 +26,11 @@ Coded (immediate f) k = k ≡ immediate_code f
 Coded (unary f) k = k ≡ unary_code f
 Coded (shift f) k = k ≡ shift_code f
 
-coded_at : (k n : ℕ) (a b : Op) → (k ≡ n → Coded a k) → Coded b k → Coded (cond (eqb k n) a b) k
-coded_at k n a b f g = cond_both (eqb k n) a b (λ o. Coded o k) (λ e. f (eqb-true k n e)) (λ e. g)
+coded_at : (k n : ℕ) (a b : Op) → Coded a n → Coded b k → Coded (cond (eqb k n) a b) k
+coded_at k n a b f g = cond_both (eqb k n) a b (λ o. Coded o k) (λ e. subst (λ m. Coded a m) (sym (eqb-true k n e)) f) (λ e. g)
 
 coded : (k : ℕ) → Coded (operation k) k
-coded k =
-    coded_at k 0 _ _ (λ e. e)
-    (coded_at k 1 _ _ (λ e. e)
-    (coded_at k 2 _ _ (λ e. e)
-    (coded_at k 3 _ _ (λ e. e)
-    (coded_at k 4 _ _ (λ e. e)
-    (coded_at k 5 _ _ (λ e. e)
-    (coded_at k 6 _ _ (λ e. e)
-    (coded_at k 8 _ _ (λ e. e)
-    (coded_at k 9 _ _ (λ e. e)
-    (coded_at k 12 _ _ (λ e. e)
-    (coded_at k 13 _ _ (λ e. e)
-    (coded_at k 14 _ _ (λ e. e)
-    (coded_at k 15 _ _ (λ e. e)
-    (coded_at k 20 _ _ (λ e. e)
-    (coded_at k 21 _ _ (λ e. e)
-    (coded_at k 22 _ _ (λ e. e)
-    (coded_at k 23 _ _ (λ e. e)
-    (coded_at k 24 _ _ (λ e. e)
-    (coded_at k 26 _ _ (λ e. e)
-    (coded_at k 27 _ _ (λ e. e)
-    (coded_at k 28 _ _ (λ e. e)
-    (coded_at k 29 _ _ (λ e. e)
-    (coded_at k 31 _ _ (λ e. e) tt))))))))))))))))))))))
+coded k = search coded_at depth 80 fits 4000
 
 -- a constant that a field holds, put back into the field
 put_back : (width w : ℕ) → within width (extended width w) ≡ w % 2 ^ width

@@ -1,3 +1,3 @@
 mod Addresses
-mod Digits
-mod Encoding
+pub mod Digits
+pub mod Encoding

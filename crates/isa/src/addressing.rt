@@ -25,6 +25,7 @@ pub fn condition(when: u8, tested: u32) -> bool
     ensures { result ≡ condition_of when tested }
 {
     let negative = tested.cast_signed() < 0;
+    // Kept: a number, since the branch's line shows it, and an enum would have to remember which of 0, 6 and 7 says never.
     match when {
         1 => true,
         2 => tested == 0,

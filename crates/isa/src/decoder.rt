@@ -13,6 +13,7 @@ pub fn decode(word: u32) -> Option<Instruction>
     ensures { result ≡ decoded word }
 {
     let rb = Field::Rb.of(word);
+    // Kept: the codes as numbers, since this is where they get their meaning.
     match Field::Op.of(word) {
         0 => Some(Instruction::Nop),
         1 if rb == 0 => Some(direct(Transfer::Load, word)),
@@ -44,6 +45,7 @@ pub fn decode(word: u32) -> Option<Instruction>
     }
 }
 
+// Kept: a function for each form, since no two have the same fields.
 fn direct(op: Transfer, word: u32) -> Instruction
     ensures { result ≡ i.Direct op (ra_of word) (c2_of word) }
 {

@@ -16,6 +16,7 @@ pub struct Hex(pub u32);
 impl fmt::Display for Hex {
     ghost output = { λ h. Some (hex_text h.0) };
 
+    #[tactic(auto, using(crate::proofs::Digits::hex_word))]
     fn fmt<W: fmt::Write>(&self, f: &mut fmt::Formatter<W>) -> fmt::Result {
         let Hex(word) = *self;
         write!(f, "{word:08X}")
@@ -45,6 +46,7 @@ impl fmt::Display for Line {
 }
 
 // The line as a text of its own. With it comes the law that a line other than the `word` form tells the word.
+#[tactic(auto, using(crate::proofs::Encoding::encodes))]
 pub fn line_text(heap: Global, word: u32) -> Result<String, AllocError>
     ensures bytes { IfOk result (λ s. string_bytes s ≡ line_of word) }
     ensures tells { Encodes word }

@@ -7,26 +7,22 @@ ghost use Rattle.rows.specs.declared.signal.Signal.TheVariants.{RIn, Write, Stop
 // The steps of one instruction are the book's clocks, and end as its instruction does, with the whole core as defined.
 pub fn rows_refine()
     ensures { Refines }
-{
-}
+{}
 
 // Over whole runs: the book's k instructions are the sum of their clocks in steps.
 pub fn runs_alike()
     ensures { RunsAlike }
-{
-}
+{}
 
 // An instruction that finishes takes 4 to 39 clocks.
 pub fn clocks_bounded()
     ensures { FinishesWithin 4 39 }
-{
-}
+{}
 
 // Under any control store only the end of an instruction, or a fault, leads to T 0.
 pub fn steps_move_on()
     ensures { MovesOn }
-{
-}
+{}
 
 // The rules that every step of our control store keeps, each by one test over all 256 control words.
 pub fn rules_stand()
@@ -39,5 +35,4 @@ pub fn rules_stand()
     ensures stop_at_end { EveryStep (only_with_end Stop) }
     ensures loops_in_six { EveryStep goes_to_six }
     ensures every_row_ends { EveryCode ends_by_seven }
-{
-}
+{}
