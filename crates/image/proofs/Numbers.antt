@@ -46,14 +46,6 @@ words_first (a ∷ (b ∷ (c ∷ (d ∷ rest)))) n h e small =
     let same : number a b c d ≡ n = omega (arith, e, small) in
     ap (λ x. x ∷ words_of rest) same
 
--- fewer than four bytes are no word
-pub words_none : (bs : List ℕ) → length bs < 4 → words_of bs ≡ []
-words_none [] h = refl
-words_none (a ∷ []) h = refl
-words_none (a ∷ (b ∷ [])) h = refl
-words_none (a ∷ (b ∷ (c ∷ []))) h = refl
-words_none (a ∷ (b ∷ (c ∷ (d ∷ rest)))) h = absurd (omega arith)
-
 -- the word that one chunk of four bytes is, or one after it
 chunk_at : (a b c d : ℕ) (rest : List ℕ) (k n : ℕ) (chunk : List ℕ) → k < suc (length rest / 4) →
     chunk ≡ get_or ((a ∷ (b ∷ (c ∷ (d ∷ [])))) ∷ first_chunks 4 (length rest / 4) rest) k chunk → n ≡ from_be_bytes w32 chunk → n < 2 ^ 32 →

@@ -20,7 +20,7 @@ abbrev pub hex_digits : ℕ → ℕ → List ℕ
 hex_digits zero n = []
 hex_digits (suc k) n = hex_digits k (n / 16) ++ (digit_glyph true (n % 16) ∷ [])
 
--- its reason in words
+-- its reason in words, as an output is given; each has one
 abbrev pub refusal_text : ImageRefusal → Option (List ℕ)
 refusal_text (Length n) = Some (decimal n ++ codes " bytes, and an image has 12 to 65536")
 refusal_text (Mark found) = Some (hex_digits 8 found ++ codes " stands for the mark 53524349")

@@ -1,5 +1,5 @@
 -- What the values of the code stand for: an image for its segments, a part of it for one segment. Assumes nothing.
-use Rattle.std.specs.Prelude.{◌≡◌, ℕ, List, [], length, take, drop, Ok, Err, Option, Result}
+use Rattle.std.specs.Prelude.{ℕ, List, [], take, drop, Ok, Err, Option, Result}
 use Rattle.std.specs.Borrow.{Bor}
 use Rattle.std.specs.Option.{option_map}
 use Rattle.std.specs.List.{slice_get}

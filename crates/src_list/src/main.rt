@@ -16,6 +16,7 @@ fn list_segment(rt: &HostRuntime, index: usize, part: &ImagePart<'_>) -> anyhow:
         "segment {index}: {} words from word {first} on",
         part.count()
     )?;
+    // A word's number is below the size.
     for (number, word) in (first..SIZE).zip(part.words()) {
         println!(rt; "{}", Entry { number, word })?;
     }
@@ -37,6 +38,7 @@ fn list_file(rt: &HostRuntime) -> anyhow::Result<()> {
         bail!("usage: src_list FILE");
     };
     let bytes = fs::read(rt, path.as_str())?;
+    // Kept: printing the refusal may fail too, and a `map_err` could not pass that on.
     match read(&bytes, SIZE) {
         Ok(image) => list_image(rt, &image),
         Err(refusal) => {

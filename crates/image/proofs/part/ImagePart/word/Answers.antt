@@ -1,4 +1,4 @@
-use Rattle.std.proofs.Common.{sym, ◌∙◌, ap, subst, get_or, arith}
+use Rattle.std.proofs.Common.{sym, ◌∙◌, ap, get_or, arith}
 use Rattle.image.proofs.Numbers.{words_past, word_of_chunk}
 use Rattle.image.proofs.part.ImagePart.word.Goals as goal
 
