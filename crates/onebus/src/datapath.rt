@@ -1,8 +1,7 @@
 // The bus, the ALU and the registers of one step.
-ghost use Rattle.std.specs.Prelude.{◌≡◌, ℕ, ◌+◌, ◌%◌, ◌^◌, ◌<◌, if◌then◌else◌};
+ghost use Rattle.std.specs.Prelude.{◌≡◌, ◌+◌, ◌%◌, ◌<◌, if◌then◌else◌};
 ghost use Rattle.isa.specs.Fields.{when_of};
-ghost use Rattle.isa.specs.Arithmetic.{binary_result, unary_result, shifted_once, sign as sign_of, condition as condition_of};
-ghost use Rattle.isa.specs.declared.operation.Shift.TheVariants as by_places;
+ghost use Rattle.isa.specs.Arithmetic.{condition as condition_of};
 ghost use Rattle.rows.specs.Core.{selected, from_instruction, bus as bus_of, shifter as shifter_of, alu as alu_of, up, stored};
 ghost use Rattle.rows.specs.declared.signal.Signal.TheVariants.{PcIn, ConPcIn, CIn, ConIn, Ld, Decr, Goto6, End};
 ghost use Rattle.rows.specs.Signals.{gives};

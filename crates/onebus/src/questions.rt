@@ -1,5 +1,5 @@
 // What a core tells.
-ghost use Rattle.std.specs.Prelude.{◌≡◌, ℕ, ◌/◌, ◌%◌, if◌then◌else◌, Some, None, ◌==◌, nat_lt, slice_index};
+ghost use Rattle.std.specs.Prelude.{◌≡◌, ◌/◌, ◌%◌, if◌then◌else◌, Some, None, ◌==◌, nat_lt, slice_index};
 ghost use Rattle.rows.specs.Rows.{table};
 ghost use Rattle.rows.specs.Core.{waits};
 ghost use Rattle.onebus.specs.View.{Fits};

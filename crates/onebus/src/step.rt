@@ -1,5 +1,5 @@
 // One control step over any memory.
-ghost use Rattle.std.specs.Prelude.{◌≡◌, ℕ, true, false};
+ghost use Rattle.std.specs.Prelude.{◌≡◌};
 ghost use Rattle.rows.specs.Rows.{table};
 ghost use Rattle.rows.specs.Core.{bus, stored, at_step, rowless, control_at};
 ghost use Rattle.onebus.specs.Steps.{progress_of, Reads, Writes, Accesses, Stepped};
