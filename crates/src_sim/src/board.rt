@@ -2,7 +2,7 @@
 ghost use Rattle.std.specs.Prelude.{◌≡◌, None};
 ghost use Rattle.src_sim.specs.Boards.{described};
 
-use memory::{ByteMemory, OpenRow, Pair, SlowStretch, WordMemory};
+use memory::{ByteMemory, OpenRow, Pair, Row, SlowStretch, Stretch, WordMemory};
 
 // A command that describes a part of the board.
 #[derive(Clone, Copy)]
@@ -62,13 +62,13 @@ impl Board {
     pub(crate) fn pile<'a>(self, words: &'a mut [u32], bytes: &'a mut [u8]) -> Pile<'a>
         ensures words { result.below.below.first.words.now ≡ words.old }
         ensures bytes { result.below.below.second.bytes.now ≡ bytes.old }
-        ensures stretch { (result.below.first ≡ self.first) × (result.below.length ≡ self.length) × (result.below.extra ≡ self.extra) }
-        ensures row { (result.extra ≡ self.row) × (result.row ≡ None) }
+        ensures stretch { result.below.rule ≡ record { first = self.first; length = self.length; extra = self.extra } }
+        ensures row { result.rule ≡ record { extra = self.row; opened = None } }
     {
         let pair = Pair::new(WordMemory::new(words), ByteMemory::new(bytes));
         OpenRow::new(
-            SlowStretch::new(pair, self.first, self.length, self.extra),
-            self.row,
+            SlowStretch::new(pair, Stretch::new(self.first, self.length, self.extra)),
+            Row::new(self.row),
         )
     }
 }
