@@ -4,7 +4,9 @@
 #[cfg(test)]
 mod tests {
     use machine::{Machine, perform_all};
-    use memory::{ByteMemory, Memory, MemoryFault, OpenRow, Pair, SlowStretch, WordMemory};
+    use memory::{
+        ByteMemory, Memory, MemoryFault, OpenRow, Pair, Row, SlowStretch, Stretch, WordMemory,
+    };
     use onebus::{Cause, CoreFault};
     use run_control::{Answer, Call, MachineFault, Refusal, Turn};
     use std::process::Abort;
@@ -48,7 +50,10 @@ mod tests {
     #[test]
     fn with_waits(rt: HostRuntime) {
         let mut words = LA_STOP;
-        let mut machine = started(SlowStretch::new(WordMemory::new(&mut words), 0, 2, 3));
+        let mut machine = started(SlowStretch::new(
+            WordMemory::new(&mut words),
+            Stretch::new(0, 2, 3),
+        ));
         assert_eq!(rt; machine.clock(1000), Ok(Ok((16, 2))));
         assert_eq!(rt; counts(&machine), (16, 6, 2));
     }
@@ -73,7 +78,10 @@ mod tests {
 
         // st r1, 4: its last step waits three clocks, and the reset comes in the second
         let mut stored = [0x1840_0004, 7];
-        let mut machine = Machine::set_up(SlowStretch::new(WordMemory::new(&mut stored), 1, 1, 3));
+        let mut machine = Machine::set_up(SlowStretch::new(
+            WordMemory::new(&mut stored),
+            Stretch::new(1, 1, 3),
+        ));
         assert!(rt; machine.set_register(1, 5).is_ok());
         assert!(rt; machine.resume().is_ok());
         reset_after(&rt, &mut machine, 9, 5);
@@ -146,7 +154,7 @@ mod tests {
         let mut words = [0];
         let mut bytes = [0u8; 8];
         let pair = Pair::new(WordMemory::new(&mut words), ByteMemory::new(&mut bytes));
-        let pile = OpenRow::new(SlowStretch::new(pair, 1, 1, 3), 7);
+        let pile = OpenRow::new(SlowStretch::new(pair, Stretch::new(1, 1, 3)), Row::new(7));
         let mut turns = [
             turn(Call::SetWord(0, LA_STOP[0])),
             turn(Call::SetWord(1, LA_STOP[1])),
