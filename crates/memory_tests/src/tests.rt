@@ -1,7 +1,7 @@
 // The edges: sizes about 8,192, bytes that make no whole word, a pair that is cut, and the delays of a pile.
 use memory::{
-    ByteMemory, Memory, MemoryFault, OpenRow, Pair, Row, SlowStretch, Stretch, WordMemory, copy_word,
-    fill,
+    ByteMemory, Memory, MemoryFault, OpenRow, Pair, Row, SlowStretch, Stretch, WordMemory,
+    copy_word, fill,
 };
 use std::process::Abort;
 use std::test::Fail;
