@@ -5,6 +5,7 @@ use Rattle.std.proofs.Common.{arith, length-take}
 use Rattle.std.proofs.lemmas.Bool.{le-ltb, cond-false, cond_both}
 use Rattle.memory.specs.Memory.{cut, wrap, word_list, Laws}
 use Rattle.memory.specs.SliceMemory.{slice_words, slice_delay}
+use Rattle.memory.specs.Delays.{slowed_words, slowed_delay}
 use Rattle.memory.specs.Pair.{joined, pair_words, pair_delay}
 use Rattle.memory.specs.declared.memory.Memory.{Ghosts}
 use Rattle.memory.specs.declared.element.Element
@@ -39,6 +40,14 @@ slice_laws element = record {
   fits = λ s. take_fits 8192 _ (map_fits wrap wrap_fits (element.held s.elements.now));
   short = λ s n. omega arith;
   past = λ s n h. refl;
+}
+
+pub slowed_laws : {M R : Type 0} (below : Ghosts M) (extra : R → ℕ → ℕ) → Laws (slowed_words below) (slowed_delay below extra)
+slowed_laws below extra = record {
+  few = λ s. below.laws.few s.below;
+  fits = λ s. below.laws.fits s.below;
+  short = λ s n. cond_both (nat_lt n (length (below.words s.below))) _ 0 (λ x. x ≤ 255) (λ e. omega arith) (λ e. omega arith);
+  past = λ s n h. cond-false (nat_lt n (length (below.words s.below))) _ _ (le-ltb n _ h);
 }
 
 pub pair_laws : {A B : Type 0} (first : Ghosts A) (second : Ghosts B) → Laws (pair_words first second) (pair_delay first second)

@@ -2,7 +2,7 @@
 ghost use Rattle.std.specs.Prelude.{◌≡◌, ℕ};
 ghost use Rattle.memory.specs.Delays.{slower, rule_after, slowed_words, slowed_delay, slowed_frame};
 ghost use Rattle.memory.specs.Memory.{Asked, Read, Written};
-ghost use Rattle.std.proofs.Common.{rules};
+ghost use Rattle.memory.specs.Lawful.{slowed_laws};
 
 use crate::memory::{Memory, MemoryFault};
 
@@ -57,7 +57,7 @@ impl<M: Memory, R: SlowRule> Memory for Slowed<M, R> {
 
     ghost frame = { slowed_frame M.Memory };
 
-    ghost laws = { let below = M.laws in Prim.search rules };
+    ghost laws = { slowed_laws M.Memory R.extra };
 
     fn size(&mut self) -> u32 {
         self.below.size()
