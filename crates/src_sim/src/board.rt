@@ -1,5 +1,5 @@
 // The board: the memory that the machine is set up over.
-ghost use Rattle.std.specs.Prelude.{◌≡◌, None, unwrap_or};
+ghost use Rattle.std.specs.Prelude.{◌≡◌, None, IfOk, replicate, unwrap_or};
 ghost use Rattle.src_sim.specs.Boards.{described, stretch_of};
 
 use memory::{ByteMemory, OpenRow, Pair, Row, SlowStretch, Stretch, WordMemory};
@@ -66,7 +66,10 @@ impl Board {
     }
 
     // The cells of the board, all 0.
-    pub(crate) fn cells(self, heap: Global) -> Result<Cells, AllocError> {
+    pub(crate) fn cells(self, heap: Global) -> Result<Cells, AllocError>
+        ensures words { IfOk result (λ c. c.words.items ≡ replicate self.words 0) }
+        ensures bytes { IfOk result (λ c. c.bytes.items ≡ replicate self.bytes 0) }
+    {
         Ok(Cells {
             words: vec![in heap; 0u32; self.words as usize]?,
             bytes: vec![in heap; 0u8; self.bytes as usize]?,

@@ -1,8 +1,8 @@
 // The commands, as `help` tells them.
-use crate::complaint::Complaint;
+use std::fmt;
 
 // The form of each command, and what it does.
-static COMMANDS: [(&str, &str); 19] = [
+pub static COMMANDS: [(&str, &str); 19] = [
     ("words N", "the board has a word memory over N words"),
     ("bytes N", "and after it a byte memory over N bytes"),
     ("slow FIRST LENGTH EXTRA", "and over both a slow stretch"),
@@ -30,17 +30,15 @@ static COMMANDS: [(&str, &str); 19] = [
     ("help", "tells this"),
 ];
 
-// The complaint about a line that begins with a command's name and is not that command.
-pub(crate) fn misspelt(name: &str) -> Complaint {
-    COMMANDS
-        .iter()
-        .find(|(form, _)| form.split_ascii_whitespace().next() == Some(name))
-        .map_or(Complaint::NoCommand, |(form, _)| Complaint::Form(form))
-}
+// To be shown as a line for each command.
+#[derive(Clone, Copy)]
+pub struct Help;
 
-pub(crate) fn tell_commands(rt: &HostRuntime) -> anyhow::Result<()> {
-    for (form, meaning) in COMMANDS.iter() {
-        println!(rt; "{form:<24}{meaning}")?;
+impl fmt::Display for Help {
+    fn fmt<W: fmt::Write>(&self, f: &mut fmt::Formatter<W>) -> fmt::Result {
+        for (form, meaning) in COMMANDS.iter() {
+            writeln!(f, "{form:<24}{meaning}")?;
+        }
+        Ok(())
     }
-    Ok(())
 }

@@ -1,6 +1,9 @@
 // Runs a script of calls on a machine, read from standard input, or with `src_sim FILE` the program in an image.
 #![tactic(auto)]
 
+ghost use Rattle.std.specs.Iterator.{at_most};
+ghost use Rattle.std.specs.Io.Iter.{pieces_left_to_read};
+
 mod board;
 mod command;
 mod complaint;
@@ -8,15 +11,348 @@ mod help;
 mod hex_bytes;
 mod numbers;
 mod parameters;
-mod program;
-mod script;
-mod session;
 
-use crate::board::PLAIN;
-use crate::script::Script;
-use crate::session::Session;
+use crate::board::{Board, BoardPart, PLAIN, Pile};
+use crate::command::{Command, Question};
+use crate::complaint::Complaint;
+use crate::help::{COMMANDS, Help};
+use crate::hex_bytes::byte;
+use crate::parameters::{count, delay, index, limited, value};
 use anyhow::anyhow;
-use std::{env, fs};
+use isa::{Entry, Hex, Line};
+use machine::{Machine, perform};
+use memory::Stretch;
+use run_control::{Answer, Call, MachineFault, Refusal};
+use std::alloc::Global;
+use std::io::{BufRead, BufReader, Split, Stdin};
+use std::{array, env, fmt, fs, io};
+
+// The bytes that the words write, one word after another, with two digits to a byte.
+fn bytes_of(heap: Global, words: &[&str]) -> Result<Vec<u8>, Complaint> {
+    let mut bytes = Vec::new(heap);
+    for word in words {
+        for pair in word.as_bytes().chunks(2) {
+            let [high, low] = pair else {
+                return Err(Complaint::NoBytes);
+            };
+            bytes.push(byte(*high, *low).ok_or(Complaint::NoBytes)?)?;
+        }
+    }
+    Ok(bytes)
+}
+
+// The complaint about a line that begins with a command's name and is not that command.
+fn misspelt(name: &str) -> Complaint {
+    COMMANDS
+        .iter()
+        .find(|(form, _)| form.split_ascii_whitespace().next() == Some(name))
+        .map_or(Complaint::NoCommand, |(form, _)| Complaint::Form(form))
+}
+
+fn board_part(words: &[&str]) -> Result<Option<BoardPart>, Complaint> {
+    Ok(Some(match words {
+        ["words", n] => BoardPart::Words(limited(n, 65_536)?),
+        ["bytes", n] => BoardPart::Bytes(limited(n, 262_144)?),
+        ["slow", first, length, extra] => BoardPart::Slow(Stretch {
+            first: index(first)?,
+            length: index(length)?,
+            extra: delay(extra)?,
+        }),
+        ["row", extra] => BoardPart::Row(delay(extra)?),
+        _ => return Ok(None),
+    }))
+}
+
+fn call_in(words: &[&str]) -> Result<Option<Call<'static>>, Complaint> {
+    Ok(Some(match words {
+        ["start"] => Call::Start,
+        ["resume"] => Call::Resume,
+        ["reset"] => Call::Reset,
+        ["set-register", i, v] => Call::SetRegister(index(i)?, value(v)?),
+        ["set-word", i, v] => Call::SetWord(index(i)?, value(v)?),
+        ["clock", k] => Call::Clock(count(k)?),
+        _ => return Ok(None),
+    }))
+}
+
+fn image_in(rt: &HostRuntime, words: &[&str]) -> Result<Option<Vec<u8>>, Complaint> {
+    Ok(Some(match words {
+        ["image", bytes @ ..] if !bytes.is_empty() => bytes_of(rt.alloc(), bytes)?,
+        ["load", path] => fs::read(rt, path)?,
+        _ => return Ok(None),
+    }))
+}
+
+fn question_in(words: &[&str]) -> Result<Option<Question>, Complaint> {
+    Ok(Some(match words {
+        ["register", i] => Question::Register(index(i)?),
+        ["word", i] => Question::Word(index(i)?),
+        ["line", i] => Question::Line(index(i)?),
+        ["state"] => Question::State,
+        ["registers"] => Question::Registers,
+        ["list", first, count] => Question::List {
+            first: index(first)?,
+            count: index(count)?,
+        },
+        _ => return Ok(None),
+    }))
+}
+
+// The command that the words of a line make.
+fn command_in(rt: &HostRuntime, words: &[&str]) -> Result<Command, Complaint> {
+    if let Some(part) = board_part(words)? {
+        return Ok(Command::Describe(part));
+    }
+    if let Some(call) = call_in(words)? {
+        return Ok(Command::Perform(call));
+    }
+    if let Some(image) = image_in(rt, words)? {
+        return Ok(Command::Load(image));
+    }
+    if let Some(question) = question_in(words)? {
+        return Ok(Command::Ask(question));
+    }
+    match words {
+        ["help"] => Ok(Command::Help),
+        [name, ..] => Err(misspelt(name)),
+        [] => Err(Complaint::NoCommand),
+    }
+}
+
+// The commands of a script, read line by line from standard input.
+#[derive(Drop)]
+struct Script<'a> {
+    rt: &'a HostRuntime,
+    lines: Split<BufReader<Stdin>>,
+}
+
+// The command in a line; none in a blank line and in a comment.
+fn read_line(rt: &HostRuntime, line: &[u8]) -> Result<Option<Command>, Complaint> {
+    let line = std::str::from_utf8(line).map_err(|_| Complaint::NotText)?;
+    let words: Vec<&str> = line.split_ascii_whitespace().collect(rt.alloc())?;
+    if words.is_empty() || line.starts_with('#') {
+        return Ok(None);
+    }
+    Ok(Some(command_in(rt, &words)?))
+}
+
+// The command in a line, if it has one. What is wrong with the line is told.
+fn heard(rt: &HostRuntime, line: io::Result<Vec<u8>>) -> anyhow::Result<Option<Command>> {
+    match read_line(rt, &line?) {
+        Ok(command) => Ok(command),
+        Err(complaint) => {
+            println!(rt; "? {complaint}")?;
+            Ok(None)
+        }
+    }
+}
+
+impl Iterator for Script<'_> {
+    type Item = anyhow::Result<Command>;
+
+    ghost remaining = { λ s. at_most (pieces_left_to_read s.lines) };
+
+    fn next(&mut self) -> Option<anyhow::Result<Command>> {
+        let rt = self.rt;
+        self.lines.find_map(|line| heard(rt, line).transpose())
+    }
+}
+
+impl<'a> Script<'a> {
+    fn new(rt: &'a HostRuntime) -> io::Result<Script<'a>> {
+        let input = BufReader::new(rt.alloc(), rt.stdin())?;
+        let lines = input.split(rt.alloc(), b'\n');
+        Ok(Script { rt, lines })
+    }
+
+    // The board that is described, and the first call or question after it; none where the script ends before one.
+    fn board(&mut self) -> anyhow::Result<Option<(Board, Command)>> {
+        let rt = self.rt;
+        let mut board = PLAIN;
+        for command in self.by_ref() {
+            match command? {
+                Command::Describe(part) => {
+                    board = board.with(part);
+                    println!(rt; "ok")?;
+                }
+                Command::Help => print!(rt; "{Help}")?,
+                command => return Ok(Some((board, command))),
+            }
+        }
+        Ok(None)
+    }
+}
+
+// The clocks of one call, and how many calls there are at most.
+const CLOCKS: u64 = 1_000_000;
+
+const CALLS: u64 = 1000;
+
+#[derive(Clone, Copy)]
+enum Ending {
+    Stopped,
+    Faulted(MachineFault),
+    // It still runs after all the clocks.
+    Spent,
+}
+
+impl fmt::Display for Ending {
+    fn fmt<W: fmt::Write>(&self, f: &mut fmt::Formatter<W>) -> fmt::Result {
+        match *self {
+            Ending::Stopped => write!(f, "stopped"),
+            Ending::Faulted(fault) => write!(f, "{fault}"),
+            Ending::Spent => write!(f, "spent 1000000000 clocks"),
+        }
+    }
+}
+
+// A machine that obeys commands, and tells what it answers.
+#[derive(Drop)]
+struct Session<'a> {
+    rt: &'a HostRuntime,
+    machine: Machine<Pile<'a>>,
+}
+
+// What a machine has counted.
+#[derive(Clone, Copy)]
+struct Counts {
+    clocks: u64,
+    waits: u64,
+    finished: u64,
+}
+
+impl fmt::Display for Counts {
+    fn fmt<W: fmt::Write>(&self, f: &mut fmt::Formatter<W>) -> fmt::Result {
+        let Counts {
+            clocks,
+            waits,
+            finished,
+        } = self;
+        write!(f, "clocks {clocks} waits {waits} finished {finished}")
+    }
+}
+
+// Tells a value, or why there is none.
+fn tell<T: fmt::Display + Drop>(rt: &HostRuntime, told: Result<T, Refusal>) -> anyhow::Result<()> {
+    match told {
+        Ok(value) => println!(rt; "{value}")?,
+        Err(refusal) => println!(rt; "{}", Answer::Refused(refusal))?,
+    }
+    Ok(())
+}
+
+impl<'a> Session<'a> {
+    // A session with a stopped machine over the memory.
+    fn new(rt: &'a HostRuntime, memory: Pile<'a>) -> Session<'a> {
+        Session {
+            rt,
+            machine: Machine::set_up(memory),
+        }
+    }
+
+    fn counts(&self) -> Counts {
+        Counts {
+            clocks: self.machine.clocks(),
+            waits: self.machine.waits(),
+            finished: self.machine.finished(),
+        }
+    }
+
+    // The registers, each at its number.
+    fn registers(&self) -> [u32; 32] {
+        array::from_fn(|number| self.machine.register(number as u32).unwrap_or(0))
+    }
+
+    fn tell_state(&self) -> anyhow::Result<()> {
+        let pc = Hex(self.machine.pc());
+        let step = self.machine.step();
+        let run = if self.machine.runs() { 1 } else { 0 };
+        let counts = self.counts();
+        println!(self.rt; "pc {pc} step {step} run {run} {counts}")?;
+        Ok(())
+    }
+
+    // Four lines of eight registers.
+    fn tell_registers(&self) -> anyhow::Result<()> {
+        for (number, value) in self.registers().iter().enumerate() {
+            let end = if number % 8 == 7 { '\n' } else { ' ' };
+            print!(self.rt; "r{number} {}{end}", Hex(*value))?;
+        }
+        Ok(())
+    }
+
+    // Words from the first on, up to one that is not there.
+    fn list(&mut self, first: u32, count: u32) -> anyhow::Result<()> {
+        for number in (0..count).map(|k| first.saturating_add(k)) {
+            let told = self.machine.word(number).map(|word| Entry { number, word });
+            let ends = told.is_err();
+            tell(self.rt, told)?;
+            if ends {
+                break;
+            }
+        }
+        Ok(())
+    }
+
+    fn answer(&mut self, question: Question) -> anyhow::Result<()> {
+        match question {
+            Question::Register(number) => tell(self.rt, self.machine.register(number).map(Hex)),
+            Question::Word(number) => tell(self.rt, self.machine.word(number).map(Hex)),
+            Question::Line(number) => tell(self.rt, self.machine.word(number).map(Line)),
+            Question::State => self.tell_state(),
+            Question::Registers => self.tell_registers(),
+            Question::List { first, count } => self.list(first, count),
+        }
+    }
+
+    fn obey(&mut self, command: Command) -> anyhow::Result<()> {
+        match command {
+            Command::Describe(_) => println!(self.rt; "? {}", Complaint::LateBoard)?,
+            Command::Perform(call) => println!(self.rt; "{}", perform(&mut self.machine, call))?,
+            Command::Load(image) => {
+                println!(self.rt; "{}", perform(&mut self.machine, Call::Load(&image)))?
+            }
+            Command::Ask(question) => self.answer(question)?,
+            Command::Help => print!(self.rt; "{Help}")?,
+        }
+        Ok(())
+    }
+
+    // Clocks the machine, which was started, until it ends. A fault is told with the clocks and the instructions of the whole run.
+    fn run_to_end(&mut self) -> Ending {
+        for _ in 0..CALLS {
+            if let Answer::Faulted(fault) = perform(&mut self.machine, Call::Clock(CLOCKS)) {
+                return Ending::Faulted(MachineFault {
+                    spent: self.machine.clocks(),
+                    finished: self.machine.finished(),
+                    ..fault
+                });
+            }
+            if !self.machine.runs() {
+                return Ending::Stopped;
+            }
+        }
+        Ending::Spent
+    }
+
+    // Runs the program in the image, and tells how it ended, the registers that are not 0 and the counts.
+    fn run_image(&mut self, image: &[u8]) -> anyhow::Result<()> {
+        let loaded = perform(&mut self.machine, Call::Load(image));
+        let Answer::Done = loaded else {
+            println!(self.rt; "{loaded}")?;
+            return Err(anyhow!("the file holds no image"));
+        };
+        let _ = perform(&mut self.machine, Call::Start);
+        println!(self.rt; "{}", self.run_to_end())?;
+        for (number, value) in self.registers().iter().enumerate() {
+            if *value != 0 {
+                println!(self.rt; "r{number} {}", Hex(*value))?;
+            }
+        }
+        println!(self.rt; "{}", self.counts())?;
+        Ok(())
+    }
+}
 
 fn run_script(rt: &HostRuntime) -> anyhow::Result<()> {
     let mut script = Script::new(rt)?;
