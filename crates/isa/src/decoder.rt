@@ -4,7 +4,7 @@ ghost use Rattle.isa.specs.Fields.{ra_of, rb_of, rc_of, c1_of, c2_of, count_of, 
 ghost use Rattle.isa.specs.Instructions.{decoded, shift_instruction};
 ghost use Rattle.isa.specs.declared.instruction.Instruction.TheVariants as i;
 
-use crate::fields::{Field, c1, c2};
+use crate::fields::{Field, c1, c2, when};
 use crate::instruction::Instruction;
 use crate::operation::{Binary, Immediate, Shift, Transfer, Unary};
 
@@ -45,7 +45,7 @@ pub fn decode(word: u32) -> Option<Instruction>
     }
 }
 
-// Kept: a function for each form, since no two have the same fields.
+// Kept: a function for each form, which reads just the fields that it has; the literals in the arms of the `match` would take five or six lines each.
 fn direct(op: Transfer, word: u32) -> Instruction
     ensures { result ≡ i.Direct op (ra_of word) (c2_of word) }
 {
@@ -83,7 +83,7 @@ fn branch(word: u32) -> Instruction
     Instruction::Branch {
         rb: Field::Rb.of(word),
         rc: Field::Rc.of(word),
-        when: (word % 8) as u8,
+        when: when(word),
     }
 }
 
@@ -94,7 +94,7 @@ fn branch_link(word: u32) -> Instruction
         ra: Field::Ra.of(word),
         rb: Field::Rb.of(word),
         rc: Field::Rc.of(word),
-        when: (word % 8) as u8,
+        when: when(word),
     }
 }
 

@@ -59,6 +59,15 @@ pub(crate) fn c2(word: u32) -> i32
     extended(word, 17)
 }
 
+// The number in the low three bits, which says when a branch is taken.
+#[inline]
+pub fn when(word: u32) -> u8
+    ensures { result ≡ fields.when_of word }
+{
+    (word % 8) as u8
+}
+
+// Kept: two constants of two widths, each by its name; one function of the width would have to refuse some.
 // The constant c1 of the word, sign extended to a word.
 #[inline]
 pub fn c1_word(word: u32) -> u32

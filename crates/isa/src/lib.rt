@@ -14,7 +14,7 @@ mod text;
 pub use addressing::{address, condition};
 pub use decoder::decode;
 pub use entry::Entry;
-pub use fields::{Field, c1_word, c2_word};
+pub use fields::{Field, c1_word, c2_word, when};
 pub use instruction::Instruction;
 pub use line::{Hex, Line, line_text};
 pub use operation::{Binary, Immediate, Shift, Transfer, Unary};

@@ -33,6 +33,7 @@ append_fits (x ∷ xs) ys g h zero = g 0
 append_fits (x ∷ xs) ys g h (suc n) = append_fits xs ys (λ k. g (suc k)) h n
 
 -- the laws of words that are cut and wrapped, with no delays
+-- of a memory over a slice, whatever its elements
 pub slice_laws : {T : Type 0} (element : Element.Ghosts T) → Laws (slice_words element) (slice_delay element)
 unfolding word_list
 slice_laws element = record {
@@ -42,6 +43,7 @@ slice_laws element = record {
   past = λ s n h. refl;
 }
 
+-- of a memory with some delays added, whatever the rule
 pub slowed_laws : {M R : Type 0} (below : Ghosts M) (extra : R → ℕ → ℕ) → Laws (slowed_words below) (slowed_delay below extra)
 slowed_laws below extra = record {
   few = λ s. below.laws.few s.below;
@@ -50,6 +52,7 @@ slowed_laws below extra = record {
   past = λ s n h. cond-false (nat_lt n (length (below.words s.below))) _ _ (le-ltb n _ h);
 }
 
+-- of two memories, one after the other
 pub pair_laws : {A B : Type 0} (first : Ghosts A) (second : Ghosts B) → Laws (pair_words first second) (pair_delay first second)
 unfolding joined
 pair_laws first second = record {

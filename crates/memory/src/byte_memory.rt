@@ -24,6 +24,7 @@ impl Element for u8 {
         u32::from_be_bytes(words[number as usize])
     }
 
+    // Kept: `as_chunks_mut` says nothing of what the bytes are once its chunks were written.
     fn put(bytes: &mut [u8], number: u32, value: u32) {
         let at = 4 * number as usize;
         bytes[at..at + 4].copy_from_slice(&value.to_be_bytes());

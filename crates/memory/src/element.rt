@@ -10,7 +10,8 @@ pub(crate) trait Element: Copy {
     // What lies past the elements that a memory over them uses.
     ghost rest: { List Self → List ℕ };
 
-    /// Nothing but the fact. Kept: no proof of a function that is generic in the elements knows that they fit, and `new` is one.
+    // Kept: a function with a fact and no work, since no proof of one that is generic in the elements knows that they fit, and `new` is one.
+    /// Says that each element fits its type.
     fn all_fit(elements: &[Self])
         ensures { word_list (held elements.now) ≡ cut (held elements.now) };
 

@@ -10,7 +10,7 @@ const ROW_WORDS: u32 = 64;
 pub type OpenRow<M> = Slowed<M, Row>;
 
 /// What is added for a word outside of the open row, and that row. An accepted access opens the row of its word.
-#[derive(Clone, Copy)]
+#[derive(Clone, Copy, Debug, PartialEq, Eq)]
 pub struct Row {
     extra: u8,
     opened: Option<u32>,
@@ -36,9 +36,10 @@ impl SlowRule for Row {
 
     #[inline]
     fn extra(&self, number: u32) -> u8 {
-        match self.opened {
-            Some(row) if row == number / ROW_WORDS => 0,
-            _ => self.extra,
+        if self.opened == Some(number / ROW_WORDS) {
+            0
+        } else {
+            self.extra
         }
     }
 

@@ -31,6 +31,7 @@ impl<A: Memory, B: Memory> Pair<A, B> {
         (first, second)
     }
 
+    // Kept: `delay`, `read` and `write` each choose the part by these two; a value for the part and its number would be taken apart again in each.
     /// How many words the first has, and how many there are.
     fn sizes(&mut self) -> (u32, u32)
         ensures front { result.0 ≡ length (A.words self.old.first) }

@@ -8,7 +8,7 @@ use crate::delays::{SlowRule, Slowed};
 pub type SlowStretch<M> = Slowed<M, Stretch>;
 
 /// The stretch of `length` words from the number `first` on, and what is added for each of them.
-#[derive(Clone, Copy)]
+#[derive(Clone, Copy, Debug, PartialEq, Eq)]
 pub struct Stretch {
     pub first: u32,
     pub length: u32,

@@ -65,8 +65,8 @@ pub fn copy_in_words(words: &mut [u32], from: u32, to: u32)
     let _ = copy_word(&mut memory, from, to);
 }
 
+// Kept: one function for this and the one above would name the bound on elements, which no other crate can, and would not know that they fit.
 /// The same in a memory over lent bytes.
-// Kept: one function for both would name the bound on elements, which no other crate can, and would not know that they fit.
 pub fn copy_in_bytes(bytes: &mut [u8], from: u32, to: u32)
     ensures words { cut (packed bytes.new) ≡ copied (cut (packed bytes.old)) from to }
     ensures rest { drop (bytes_used bytes.old) bytes.new ≡ drop (bytes_used bytes.old) bytes.old }

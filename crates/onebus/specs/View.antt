@@ -1,5 +1,5 @@
 -- How a core is seen, and what setting it does. Assumes nothing.
-use Rattle.std.specs.Prelude.{ℕ, ◌^◌, ◌<◌, false, List, replicate, slice_index, slice_set}
+use Rattle.std.specs.Prelude.{◌≡◌, ℕ, ◌^◌, ◌<◌, false, List, length, replicate, slice_index, slice_set}
 use Rattle.rows.specs.Core as model
 use Rattle.onebus.specs.declared.register_set.Core.TheInside.{Inside}
 
@@ -18,10 +18,11 @@ seen k = record {
   t = k.t;
 }
 
--- what every core meets: the count n has five bits, the step three, and each register 32
+-- what every core meets: the count n has five bits, the step three, and each of the 32 registers 32
 pub record Fits (k : model.Core) : Type 0 where
   pub count : k.n < 32
   pub step : k.t < 8
+  pub many : length k.regs ≡ 32
   pub small : (i : ℕ) → slice_index k.regs i < 2 ^ 32
 
 -- all registers 0

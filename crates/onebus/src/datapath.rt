@@ -8,7 +8,7 @@ ghost use Rattle.rows.specs.Signals.{gives};
 
 use crate::control::ControlWord;
 use crate::register_set::Core;
-use isa::{Field, c1_word, c2_word, condition};
+use isa::{Field, c1_word, c2_word, condition, when};
 use rows::Signal;
 
 /// A register takes the new value where it is enabled.
@@ -162,7 +162,7 @@ impl Core {
         ensures { result ≡ (if gives word.0 ConIn then condition_of (when_of self.now.ir) bus else self.now.con) }
     {
         if word.has(Signal::ConIn) {
-            condition((self.ir % 8) as u8, bus)
+            condition(when(self.ir), bus)
         } else {
             self.con
         }

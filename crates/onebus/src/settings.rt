@@ -35,8 +35,7 @@ impl Core {
     fn clear_registers(&mut self)
         ensures { self.new ≡ cleared self.old }
     {
-        let zeros = [0; 32];
-        self.regs = zeros;
+        self.regs = [0; 32];
     }
 
     /// Zeroes PC and T.
@@ -54,6 +53,7 @@ impl Core {
         self.t = 0;
     }
 
+    // Kept: no `Option` tells of a number that is too large, since run control refuses those by its own refusal before.
     /// Sets a register, where there is one of that number.
     pub fn set_register(&mut self, i: usize, value: u32)
         ensures { self.new ≡ (if nat_lt i 32 then with_register self.old i value else self.old) }
@@ -63,7 +63,7 @@ impl Core {
         }
     }
 
-    // Kept: a type for register numbers would be made at both calls, each of which knows the bound, and read here alone.
+    // Kept: a type for register numbers would be made of each number that `selected` picks, in the clock loop, to be read in two places.
     pub(crate) fn put(&mut self, i: usize, value: u32)
         requires { i < 32 }
         ensures { self.new ≡ with_register self.old i value }

@@ -15,6 +15,7 @@ use memory::Memory;
 use rows::Signal;
 
 impl Core {
+    // Kept: the look-up stands here again, as the control word by any code and step tests both, and these two are known to fit.
     /// The control word of IR's operation at the step T.
     pub fn control_word(&self) -> ControlWord
         ensures { result.0 ≡ control_at table self.now }
@@ -29,6 +30,7 @@ impl Core {
         word.0 == 0 && self.t == 3
     }
 
+    // Kept: the control word and the memory go through the three functions of an access; a struct of both would borrow the memory anew in each.
     /// What MD has after the step's read, if it has one.
     fn read_word<M: Memory>(&self, word: ControlWord, memory: &mut M) -> Result<u32, Cause>
         ensures { Reads M.Memory word.0 self.now memory.old result memory.new }

@@ -1,6 +1,6 @@
-use Rattle.std.proofs.Common.{lit<}
+use Rattle.std.proofs.Common.{lit<, refl}
 use Rattle.onebus.proofs.Registers.{all_small}
 use Rattle.onebus.proofs.register_set.Core.new.Goals as goal
 
 pub invariant_of-result : goal.invariant_of-result
-invariant_of-result c = record { count = lit< tt; step = lit< tt; small = all_small }
+invariant_of-result c = record { count = lit< tt; step = lit< tt; many = refl; small = all_small }
