@@ -47,25 +47,44 @@ words_first (a ∷ (b ∷ (c ∷ (d ∷ rest)))) n h e small =
     ap (λ x. x ∷ words_of rest) same
 
 -- the word that one chunk of four bytes is, or one after it
-chunk_at : (a b c d : ℕ) (rest : List ℕ) (k n : ℕ) (chunk : List ℕ) → k < suc (length rest / 4) →
-    chunk ≡ get_or ((a ∷ (b ∷ (c ∷ (d ∷ [])))) ∷ first_chunks 4 (length rest / 4) rest) k chunk → n ≡ from_be_bytes w32 chunk → n < 2 ^ 32 →
-    ((j : ℕ) → j < length rest / 4 → chunk ≡ get_or (first_chunks 4 (length rest / 4) rest) j chunk → Some n ≡ slice_get (words_of rest) j) → Some n ≡ slice_get (number a b c d ∷ words_of rest) k
-chunk_at a b c d rest zero n chunk h i e small later =
+chunk_at : (a b c d : ℕ) (rest : List ℕ) (k n : ℕ) (chunk none : List ℕ) → k < suc (length rest / 4) →
+    chunk ≡ get_or ((a ∷ (b ∷ (c ∷ (d ∷ [])))) ∷ first_chunks 4 (length rest / 4) rest) k none → n ≡ from_be_bytes w32 chunk → n < 2 ^ 32 →
+    ((j : ℕ) → j < length rest / 4 → chunk ≡ get_or (first_chunks 4 (length rest / 4) rest) j none → Some n ≡ slice_get (words_of rest) j) → Some n ≡ slice_get (number a b c d ∷ words_of rest) k
+chunk_at a b c d rest zero n chunk none h i e small later =
     let here : n ≡ from_be_bytes w32 (a ∷ (b ∷ (c ∷ (d ∷ [])))) = e ∙ ap (from_be_bytes w32) i in
     let same : n ≡ number a b c d = omega (arith, here, small) in
     ap Some same
-chunk_at a b c d rest (suc j) n chunk h i e small later = later j (omega arith) i
+chunk_at a b c d rest (suc j) n chunk none h i e small later = later j (omega arith) i
 
 -- the word that the chunk k of four bytes is
-pub word_of_chunk : (bs : List ℕ) (k n : ℕ) (chunk : List ℕ) → k < length bs / 4 → chunk ≡ get_or (first_chunks 4 (length bs / 4) bs) k chunk → n ≡ from_be_bytes w32 chunk → n < 2 ^ 32 → Some n ≡ slice_get (words_of bs) k
-word_of_chunk [] k n chunk h c e small = absurd (omega arith)
-word_of_chunk (a ∷ []) k n chunk h c e small = absurd (omega arith)
-word_of_chunk (a ∷ (b ∷ [])) k n chunk h c e small = absurd (omega arith)
-word_of_chunk (a ∷ (b ∷ (c ∷ []))) k n chunk h i e small = absurd (omega arith)
-word_of_chunk (a ∷ (b ∷ (c ∷ (d ∷ rest)))) k n chunk h i e small =
+pub word_of_chunk : (bs : List ℕ) (k n : ℕ) (chunk none : List ℕ) → k < length bs / 4 → chunk ≡ get_or (first_chunks 4 (length bs / 4) bs) k none → n ≡ from_be_bytes w32 chunk → n < 2 ^ 32 → Some n ≡ slice_get (words_of bs) k
+word_of_chunk [] k n chunk none h c e small = absurd (omega arith)
+word_of_chunk (a ∷ []) k n chunk none h c e small = absurd (omega arith)
+word_of_chunk (a ∷ (b ∷ [])) k n chunk none h c e small = absurd (omega arith)
+word_of_chunk (a ∷ (b ∷ (c ∷ []))) k n chunk none h i e small = absurd (omega arith)
+word_of_chunk (a ∷ (b ∷ (c ∷ (d ∷ rest)))) k n chunk none h i e small =
     let bs = a ∷ (b ∷ (c ∷ (d ∷ rest))) in
     let more : length bs / 4 ≡ suc (length rest / 4) = omega arith in
-    chunk_at a b c d rest k n chunk (omega arith) (subst (λ m. chunk ≡ get_or (first_chunks 4 m bs) k chunk) more i) e small (λ j h i. word_of_chunk rest j n chunk h i e small)
+    chunk_at a b c d rest k n chunk none (omega arith) (subst (λ m. chunk ≡ get_or (first_chunks 4 m bs) k none) more i) e small (λ j h i. word_of_chunk rest j n chunk none h i e small)
+
+-- the word k is the number at its first byte
+word_at : (bs : List ℕ) (k : ℕ) → k < length bs / 4 → slice_get (words_of bs) k ≡ Some (number_at bs (4 * k))
+word_at [] k h = absurd (omega arith)
+word_at (a ∷ []) k h = absurd (omega arith)
+word_at (a ∷ (b ∷ [])) k h = absurd (omega arith)
+word_at (a ∷ (b ∷ (c ∷ []))) k h = absurd (omega arith)
+word_at (a ∷ (b ∷ (c ∷ (d ∷ rest)))) zero h = refl
+word_at (a ∷ (b ∷ (c ∷ (d ∷ rest)))) (suc j) h =
+    let bs = a ∷ (b ∷ (c ∷ (d ∷ rest))) in
+    let e : 4 + 4 * j ≡ 4 * suc j = omega arith in
+    word_at rest j (omega arith) ∙ ap Some (number_at_drop 4 (4 * j) bs ∙ ap (number_at bs) e)
+
+-- the number that the chunk k of four bytes is
+pub number_of_chunk : (bs : List ℕ) (k n : ℕ) (chunk none : List ℕ) → 4 * k + 4 ≤ length bs → chunk ≡ get_or (first_chunks 4 (length bs / 4) bs) k none → n ≡ from_be_bytes w32 chunk → n < 2 ^ 32 → n ≡ number_at bs (4 * k)
+number_of_chunk bs k n chunk none h c e small =
+    let there : k < length bs / 4 = omega arith in
+    let same : Some n ≡ Some (number_at bs (4 * k)) = word_of_chunk bs k n chunk none there c e small ∙ word_at bs k there in
+    cc
 
 -- words are of 32 bits
 pub words_below : (bs : List ℕ) → AllByRecursion (λ v. v < 2 ^ 32) (words_of bs)

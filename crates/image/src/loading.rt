@@ -34,9 +34,7 @@ fn set_words<M: Memory>(memory: &mut M, part: &ImagePart)
     ensures words { M.Memory.words memory.new ≡ stored (M.Memory.words memory.old) (segment_of part.now).first (segment_of part.now).values }
     ensures frame { M.Memory.frame memory.new ≡ M.Memory.frame memory.old }
 {
-    let mut number = part.first();
-    for word in part.words() {
+    for (number, word) in (part.first()..).zip(part.words()) {
         let _ = memory.write(number, word);
-        number += 1;
     }
 }

@@ -1,11 +1,12 @@
 // Numbers of four bytes, high byte first.
-ghost use Rattle.std.specs.Prelude.{◌≡◌, ◌+◌, ◌≤◌, length};
+ghost use Rattle.std.specs.Prelude.{◌≡◌, ◌+◌, ◌*◌, ◌≤◌, length};
 ghost use Rattle.image.specs.Numbers.{number_at};
 
-// Kept: a chunk at `at` comes as an `Option`, which would have to be taken apart though it is never `None`.
-pub(crate) fn number_at(bytes: &[u8], at: usize) -> u32
-    requires { at + 4 ≤ length bytes.now }
-    ensures { result ≡ number_at bytes.now at }
+// The number `i` of those that `bytes` begin with, counted from 0.
+pub(crate) fn number(bytes: &[u8], i: usize) -> u32
+    requires { 4 * i + 4 ≤ length bytes.now }
+    ensures { result ≡ number_at bytes.now (4 * i) }
 {
-    u32::from_be_bytes([bytes[at], bytes[at + 1], bytes[at + 2], bytes[at + 3]])
+    let (numbers, _) = bytes.as_chunks();
+    u32::from_be_bytes(numbers[i])
 }

@@ -6,7 +6,7 @@ ghost use Rattle.image.specs.Segments.{Segment};
 ghost use Rattle.image.specs.Views.{told};
 
 use crate::image::Image;
-use crate::number::number_at;
+use crate::number::number;
 use crate::refusal::ImageRefusal;
 use crate::walk::Body;
 
@@ -22,7 +22,7 @@ pub fn read(bytes: &[u8], size: u32) -> Result<Image<'_>, ImageRefusal>
     opened(bytes, size)
 }
 
-// What `read` answers.
+// Apart from `read`, since what `read` promises besides follows from this for all its answers at once.
 fn opened(bytes: &[u8], size: u32) -> Result<Image<'_>, ImageRefusal>
     ensures { told result ≡ reading size bytes.now }
 {
@@ -33,12 +33,12 @@ fn opened(bytes: &[u8], size: u32) -> Result<Image<'_>, ImageRefusal>
     if length > 65_536 {
         return Err(ImageRefusal::Length(length));
     }
-    let found = number_at(trailer, 0);
+    let found = number(trailer, 0);
     if found != MARK {
         return Err(ImageRefusal::Mark(found));
     }
-    let segments = number_at(trailer, 4);
-    let back = number_at(trailer, 8);
+    let segments = number(trailer, 1);
+    let back = number(trailer, 2);
     let before = rest.len();
     if segments > 64 || back as usize > before {
         return Err(ImageRefusal::Trailer {

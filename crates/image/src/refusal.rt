@@ -50,13 +50,12 @@ impl ImageRefusal {
         ensures { result ≡ refusal_number self.now }
     {
         match self {
-            ImageRefusal::Length(_) => 8,
-            ImageRefusal::Mark(_) => 9,
-            ImageRefusal::Trailer { .. } => 10,
-            ImageRefusal::Cut { .. } | ImageRefusal::Empty { .. } | ImageRefusal::Beyond { .. } =>
-                11,
-            ImageRefusal::Overlap { .. } => 12,
-            ImageRefusal::LeftOver(_) => 13,
+            Self::Length(_) => 8,
+            Self::Mark(_) => 9,
+            Self::Trailer { .. } => 10,
+            Self::Cut { .. } | Self::Empty { .. } | Self::Beyond { .. } => 11,
+            Self::Overlap { .. } => 12,
+            Self::LeftOver(_) => 13,
         }
     }
 }
@@ -68,48 +67,39 @@ impl fmt::Display for ImageRefusal {
 
     fn fmt<W: fmt::Write>(&self, f: &mut fmt::Formatter<W>) -> fmt::Result {
         match *self {
-            ImageRefusal::Length(length) => {
-                write!(f, "{length} bytes, and an image has 12 to 65536")
-            }
-            ImageRefusal::Mark(found) => { write!(f, "{found:08X} stands for the mark 53524349") }
-            ImageRefusal::Trailer {
+            Self::Length(length) => write!(f, "{length} bytes, and an image has 12 to 65536"),
+            Self::Mark(found) => write!(f, "{found:08X} stands for the mark 53524349"),
+            Self::Trailer {
                 segments,
                 back,
                 before,
-            } => {
-                write!(
-                    f,
-                    "{segments} segments of {back} bytes, and there may be 64 of the {before} bytes before the trailer"
-                )
-            }
-            ImageRefusal::Cut { segment, left } => {
-                write!(f, "segment {segment} has {left} bytes, and needs 8")
-            }
-            ImageRefusal::Empty { segment } => { write!(f, "segment {segment} has no words") }
-            ImageRefusal::Beyond {
+            } => write!(
+                f,
+                "{segments} segments of {back} bytes, and there may be 64 of the {before} bytes before the trailer"
+            ),
+            Self::Cut { segment, left } => write!(
+                f,
+                "segment {segment} has {left} bytes, and needs 8"
+            ),
+            Self::Empty { segment } => write!(f, "segment {segment} has no words"),
+            Self::Beyond {
                 segment,
                 count,
                 left,
-            } => {
-                write!(
-                    f,
-                    "segment {segment} has {count} words, and there are {left} bytes for them"
-                )
-            }
-            ImageRefusal::Overlap {
+            } => write!(
+                f,
+                "segment {segment} has {count} words, and there are {left} bytes for them"
+            ),
+            Self::Overlap {
                 segment,
                 first,
                 count,
                 limit,
-            } => {
-                write!(
-                    f,
-                    "segment {segment} has {count} words from number {first} on, and has to end before number {limit}"
-                )
-            }
-            ImageRefusal::LeftOver(left) => {
-                write!(f, "{left} bytes are left over before segment 0")
-            }
+            } => write!(
+                f,
+                "segment {segment} has {count} words from number {first} on, and has to end before number {limit}"
+            ),
+            Self::LeftOver(left) => write!(f, "{left} bytes are left over before segment 0"),
         }
     }
 }

@@ -3,7 +3,7 @@ ghost use Rattle.std.specs.Prelude.{◌≡◌};
 ghost use Rattle.image.specs.Reading.{last_segment, nothing_left};
 ghost use Rattle.image.specs.Views.{split_of, picked, part_of, walked};
 
-use crate::number::number_at;
+use crate::number::number;
 use crate::part::ImagePart;
 use crate::refusal::ImageRefusal;
 
@@ -29,8 +29,8 @@ fn last_segment(
             left: body.len(),
         });
     };
-    let first = number_at(end, 0);
-    let count = number_at(end, 4);
+    let first = number(end, 0);
+    let count = number(end, 1);
     if count == 0 {
         return Err(ImageRefusal::Empty { segment });
     }
@@ -42,7 +42,7 @@ fn last_segment(
             left,
         });
     };
-    if first as u64 + count as u64 > limit as u64 {
+    if u64::from(first) + u64::from(count) > u64::from(limit) {
         return Err(ImageRefusal::Overlap {
             segment,
             first,

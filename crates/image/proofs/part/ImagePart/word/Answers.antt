@@ -11,5 +11,5 @@ pub returns : goal.returns
 returns c =
     let found = c.in_ok-word.ensures.lookup in
     let chunk = c.in_ok-word.word.now in
-    word_of_chunk c.args.self.now.words.now c.args.k c.from_be_bytes.result chunk (omega (arith, found.3.0, c.as_chunks.ensures.front_len))
+    word_of_chunk c.args.self.now.words.now c.args.k c.from_be_bytes.result chunk chunk (omega (arith, found.3.0, c.as_chunks.ensures.front_len))
     (found.1 ∙ ap (λ xs. get_or xs c.args.k chunk) c.as_chunks.ensures.front) c.from_be_bytes.ensures c.from_be_bytes.type_inv
