@@ -62,6 +62,7 @@ impl ImageRefusal {
 
 impl Error for ImageRefusal {}
 
+// Kept: the eight digits are not those of the instruction words' crate, on which images would then depend for what the library prints.
 impl fmt::Display for ImageRefusal {
     ghost output = { refusal_text };
 

@@ -13,6 +13,7 @@ const TWO_WORDS: [u32; 7] = [0x68C2003A, 0xF8000000, 0, 2, MARK, 1, 16];
 const TWO_SEGMENTS: [u32; 10] = [1, 2, 4, 2, 3, 6, 1, MARK, 2, 28];
 
 // So many bytes that are no part of an image, and then the numbers.
+// Kept: the machine's tests put an image together likewise, in three lines, for which the two would need a crate.
 fn bytes(heap: Global, ignored: usize, numbers: &[u32]) -> Result<Vec<u8>, AllocError> {
     let mut all = vec![in heap; 0x53; ignored]?;
     for n in numbers {

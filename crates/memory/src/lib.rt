@@ -15,7 +15,7 @@ mod word_memory;
 pub use byte_memory::ByteMemory;
 pub use delays::{SlowRule, Slowed};
 pub use edits::{copy_word, fill};
-pub use memory::{Memory, MemoryFault};
+pub use memory::{MOST_WORDS, Memory, MemoryFault};
 pub use open_row::{OpenRow, Row};
 pub use pair::Pair;
 pub use slice_memory::SliceMemory;

@@ -3,7 +3,7 @@ ghost use Rattle.std.specs.Prelude.{◌≡◌, ℕ, ◌<◌, ◌≤◌, min, Lis
 ghost use Rattle.memory.specs.Memory.{Loan, Laws, Asked, Read, Written};
 
 /// At most this many words are in a memory.
-pub(crate) const MOST_WORDS: u32 = 8192;
+pub const MOST_WORDS: u32 = 8192;
 
 /// The refusal of a word number that is not below the memory's size.
 #[derive(Clone, Copy, Debug, PartialEq, Eq)]

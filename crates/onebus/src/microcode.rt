@@ -86,6 +86,7 @@ const SHC_ONCE: u64 = word![NIsNotZero, COut, Shc, CIn, Decr, Goto6];
 const NONE: u64 = word![];
 
 // The control word of each code at each step, at code * 8 + step.
+// Kept: one row after the other, as the table of the definitions has them, where an array of rows would have to be joined to be that table.
 static CONTROL_STORE: [u64; 256] = [
     // 0 nop
     FETCH, FETCH_READ, FETCHED, NOP, NONE, NONE, NONE, NONE,

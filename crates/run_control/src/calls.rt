@@ -21,6 +21,7 @@ pub enum Call<'a> {
     Clock(u64),
 }
 
+// Kept: no `Result`, since a refusal and a fault are answers like the others, each with its own line of text; and `Spent` has the pair of numbers that the definitions tell, as `MachineFault` has.
 #[derive(Clone, Copy, Debug, PartialEq, Eq)]
 pub enum Answer {
     Done,

@@ -60,6 +60,8 @@ impl fmt::Display for MachineFault {
     }
 }
 
+impl std::error::Error for MachineFault {}
+
 impl fmt::Display for Answer {
     ghost output = { answer_text };
 

@@ -4,10 +4,8 @@
 use anyhow::bail;
 use image::{Image, ImagePart, read};
 use isa::Entry;
+use memory::MOST_WORDS;
 use std::{env, fs};
-
-// The words of the largest memory.
-const SIZE: u32 = 8192;
 
 // One segment: a heading, then a line for each word.
 fn list_segment(rt: &HostRuntime, index: usize, part: &ImagePart<'_>) -> anyhow::Result<()> {
@@ -16,8 +14,8 @@ fn list_segment(rt: &HostRuntime, index: usize, part: &ImagePart<'_>) -> anyhow:
         "segment {index}: {} words from word {first} on",
         part.count()
     )?;
-    // A word's number is below the size.
-    for (number, word) in (first..SIZE).zip(part.words()) {
+    // A word's number is below the size of the largest memory.
+    for (number, word) in (first..MOST_WORDS).zip(part.words()) {
         println!(rt; "{}", Entry { number, word })?;
     }
     Ok(())
@@ -39,7 +37,7 @@ fn list_file(rt: &HostRuntime) -> anyhow::Result<()> {
     };
     let bytes = fs::read(rt, path.as_str())?;
     // Kept: printing the refusal may fail too, and a `map_err` could not pass that on.
-    match read(&bytes, SIZE) {
+    match read(&bytes, MOST_WORDS) {
         Ok(image) => list_image(rt, &image),
         Err(refusal) => {
             println!(rt; "refused {} ({refusal})", refusal.number())?;
