@@ -1,2 +1,3 @@
 pub mod View
 pub mod Questions
+pub mod Texts

@@ -1,7 +1,8 @@
 // The calls on a machine.
-ghost use Rattle.std.specs.Prelude.{◌≡◌};
+ghost use Rattle.std.specs.Prelude.{◌≡◌, if◌then◌else◌, Ok, Err};
 ghost use Rattle.run_control.specs.OneBus.{one_bus};
 ghost use Rattle.run_control.specs.Calls.{set_up, start_answer, start_state, resume_answer, resume_state, reset_answer, reset_state, register_answer, register_state, word_answer, word_state, load_answer, load_state};
+ghost use Rattle.run_control.specs.declared.refusals.Refusal.TheVariants.{Running};
 ghost use Rattle.machine.specs.View.{view, lent};
 
 use crate::counts::Counts;
@@ -27,15 +28,23 @@ impl<M: Memory> Machine<M> {
         }
     }
 
+    // Refused while the machine runs.
+    fn stopped(&self) -> Result<(), Refusal>
+        ensures { result ≡ (if self.now.run then Err Running else Ok tt) }
+    {
+        if self.run {
+            return Err(Refusal::Running);
+        }
+        Ok(())
+    }
+
     /// Runs from PC 0, with the registers and the counts zeroed and no fault standing. Refused while the machine runs.
     pub fn start(&mut self) -> Result<(), Refusal>
         ensures answer { result ≡ start_answer (view M.Memory self.old) }
         ensures state { view M.Memory self.new ≡ start_state one_bus (view M.Memory self.old) }
         ensures lent { lent M.Memory self.new ≡ lent M.Memory self.old }
     {
-        if self.run {
-            return Err(Refusal::Running);
-        }
+        self.stopped()?;
         self.core.start();
         self.run = true;
         self.mark = false;
@@ -50,9 +59,7 @@ impl<M: Memory> Machine<M> {
         ensures state { view M.Memory self.new ≡ resume_state one_bus (view M.Memory self.old) }
         ensures lent { lent M.Memory self.new ≡ lent M.Memory self.old }
     {
-        if self.run {
-            return Err(Refusal::Running);
-        }
+        self.stopped()?;
         if self.mark {
             return Err(Refusal::FaultMark);
         }
@@ -82,9 +89,7 @@ impl<M: Memory> Machine<M> {
         ensures state { view M.Memory self.new ≡ register_state one_bus (view M.Memory self.old) number value }
         ensures lent { lent M.Memory self.new ≡ lent M.Memory self.old }
     {
-        if self.run {
-            return Err(Refusal::Running);
-        }
+        self.stopped()?;
         if number >= 32 {
             return Err(Refusal::NoRegister { number });
         }
@@ -98,9 +103,7 @@ impl<M: Memory> Machine<M> {
         ensures state { view M.Memory self.new ≡ word_state (view M.Memory self.old) number value (M.Memory.delay self.new.memory) }
         ensures lent { lent M.Memory self.new ≡ lent M.Memory self.old }
     {
-        if self.run {
-            return Err(Refusal::Running);
-        }
+        self.stopped()?;
         Ok(self.memory.write(number, value)?)
     }
 
@@ -110,9 +113,7 @@ impl<M: Memory> Machine<M> {
         ensures state { view M.Memory self.new ≡ load_state (view M.Memory self.old) bytes.now (M.Memory.delay self.new.memory) }
         ensures lent { lent M.Memory self.new ≡ lent M.Memory self.old }
     {
-        if self.run {
-            return Err(Refusal::Running);
-        }
+        self.stopped()?;
         Ok(image::load(&mut self.memory, bytes)?)
     }
 }

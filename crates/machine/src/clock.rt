@@ -8,7 +8,7 @@ ghost use Rattle.run_control.specs.Calls.{counted, Clocks};
 ghost use Rattle.onebus.specs.View.{Fits};
 ghost use Rattle.machine.specs.View.{view, lent};
 
-use crate::counts::Counts;
+use crate::counts::{Counts, MOST_CLOCKS};
 use crate::frame::Machine;
 use memory::Memory;
 use onebus::{Core, CoreFault, Progress};
@@ -104,7 +104,7 @@ impl<M: Memory> Machine<M> {
         self.advance()
     }
 
-    // Kept: a result in a result, as a call is first accepted or refused, and one that is accepted ends by itself or by a fault; one flat type would be `Answer` again, with a `Done` that no clock call gives.
+    // Kept: `Result<Spent, ClockEnd>`, with an error enum of `Refused` and `Faulted`, is no plainer here: `Clocks`, `From` for `Answer` and the theorems over them speak of a result in a result, and each clause would first have to turn one into the other.
     /// Spends so many clocks, or fewer where the machine stops or faults: the clocks spent and the instructions finished, or the fault. Refused while the machine is stopped, then unless 1 to 1,000,000 are wanted, then where the count of clocks would pass 10^12.
     pub fn clock(&mut self, wanted: u64) -> Result<Result<(u64, u64), MachineFault>, Refusal>
         ensures clocks { Clocks one_bus M.Memory.delay (view M.Memory self.old) wanted result (view M.Memory self.new) }
@@ -117,7 +117,7 @@ impl<M: Memory> Machine<M> {
             return Err(Refusal::ClockCount { wanted });
         }
         let clocks = self.counted_clocks();
-        if clocks + wanted > 1_000_000_000_000 {
+        if clocks + wanted > MOST_CLOCKS {
             return Err(Refusal::ClocksFull { clocks, wanted });
         }
         // Kept: a `for` over the clocks would need a third exit, where the machine stops.

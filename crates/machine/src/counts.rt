@@ -1,15 +1,21 @@
 // What a machine counts.
-ghost use Rattle.std.specs.Prelude.{◌≡◌, ◌+◌, ◌<◌, ◌≤◌};
+ghost use Rattle.std.specs.Prelude.{◌≡◌, ◌+◌, ◌<◌, ◌≤◌, Some};
+ghost use Rattle.machine.specs.Texts.{counts_text};
 
-// The clocks since the last start, resume or reset, how many of them were waits, and the instructions finished in them.
+use std::fmt;
+
+// What the count of clocks never passes, as `bounded` says.
+pub(crate) const MOST_CLOCKS: u64 = 1_000_000_000_000;
+
+/// The clocks since the last start, resume or reset, how many of them were waits, and the instructions finished in them.
 #[derive(Clone, Copy, Debug, PartialEq, Eq)]
-pub(crate) struct Counts {
-    pub(crate) clocks: u64,
-    pub(crate) waits: u64,
-    pub(crate) finished: u64,
-    ghost waited: { waits ≤ clocks },
-    ghost ended: { finished ≤ clocks },
-    ghost bounded: { clocks ≤ 1000000000000 },
+pub struct Counts {
+    pub clocks: u64,
+    pub waits: u64,
+    pub finished: u64,
+    pub ghost waited: { waits ≤ clocks },
+    pub ghost ended: { finished ≤ clocks },
+    pub ghost bounded: { clocks ≤ 1000000000000 },
 }
 
 impl Counts {
@@ -55,5 +61,18 @@ impl Counts {
         ensures finished { self.new.finished ≡ self.old.finished + 1 }
     {
         self.finished += 1;
+    }
+}
+
+impl fmt::Display for Counts {
+    ghost output = { λ c. Some (counts_text c.clocks c.waits c.finished) };
+
+    fn fmt<W: fmt::Write>(&self, f: &mut fmt::Formatter<W>) -> fmt::Result {
+        let Counts {
+            clocks,
+            waits,
+            finished,
+        } = *self;
+        write!(f, "clocks {clocks} waits {waits} finished {finished}")
     }
 }

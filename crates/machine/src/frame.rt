@@ -8,7 +8,7 @@ use onebus::Core;
 pub struct Machine<M> {
     pub(crate) memory: M,
     pub(crate) core: Core,
-    // Kept: `run`, `mark` and `reset` are three flip-flops, each set and cleared by itself, and the definitions name them one by one.
+    // Kept: not an enum of the combinations of `run`, `mark` and `reset` that come up: the definitions and theorems of run control name three flags, and `view` would have to tell each of them from the enum.
     pub(crate) run: bool,
     // does a fault stand?
     pub(crate) mark: bool,

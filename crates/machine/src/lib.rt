@@ -8,5 +8,6 @@ mod frame;
 mod performing;
 mod questions;
 
+pub use counts::Counts;
 pub use frame::Machine;
 pub use performing::{perform, perform_all};

@@ -1,8 +1,10 @@
 // What a machine tells.
 ghost use Rattle.std.specs.Prelude.{◌≡◌};
+ghost use Rattle.onebus.specs.View.{Fits};
 ghost use Rattle.machine.specs.View.{view, lent};
 ghost use Rattle.machine.specs.Questions.{register_asked, word_asked, after_word_asked, pc_of, step_of, size_of};
 
+use crate::counts::Counts;
 use crate::frame::Machine;
 use memory::Memory;
 use run_control::Refusal;
@@ -33,9 +35,10 @@ impl<M: Memory> Machine<M> {
         self.core.pc()
     }
 
-    /// The step T.
+    /// The step T. A caller learns here what the core of every machine meets.
     pub fn step(&self) -> u8
-        ensures { result ≡ step_of (view M.Memory self.now) }
+        ensures step { result ≡ step_of (view M.Memory self.now) }
+        ensures fits { Fits (view M.Memory self.now).core }
     {
         self.core.step_number()
     }
@@ -56,6 +59,15 @@ impl<M: Memory> Machine<M> {
         ensures { result ≡ (view M.Memory self.now).reset }
     {
         self.reset
+    }
+
+    /// What the machine has counted since the last start, resume or reset.
+    pub fn counts(&self) -> Counts
+        ensures clocks { result.clocks ≡ (view M.Memory self.now).clocks }
+        ensures waits { result.waits ≡ (view M.Memory self.now).waits }
+        ensures finished { result.finished ≡ (view M.Memory self.now).finished }
+    {
+        self.counts
     }
 
     /// The clocks since the last start, resume or reset.

@@ -3,7 +3,7 @@
 
 #[cfg(test)]
 mod tests {
-    use machine::{Machine, perform_all};
+    use machine::{Counts, Machine, perform_all};
     use memory::{
         ByteMemory, Memory, MemoryFault, OpenRow, Pair, Row, SlowStretch, Stretch, WordMemory,
     };
@@ -17,11 +17,6 @@ mod tests {
         let mut machine = Machine::set_up(memory);
         let _ = machine.start();
         machine
-    }
-
-    // The counts of clocks, waits and finished instructions.
-    fn counts<M: Memory>(machine: &Machine<M>) -> (u64, u64, u64) {
-        (machine.clocks(), machine.waits(), machine.finished())
     }
 
     // The call is refused by that number.
@@ -44,7 +39,14 @@ mod tests {
         assert_eq!(rt; machine.clock(9), Ok(Ok((9, 1))));
         assert_eq!(rt; machine.step(), 3);
         assert_eq!(rt; machine.clock(100), Ok(Ok((1, 1))));
-        assert_eq!(rt; counts(&machine), (10, 0, 2));
+        assert_eq!(rt;
+            machine.counts(),
+            Counts {
+                clocks: 10,
+                waits: 0,
+                finished: 2
+            }
+        );
     }
 
     #[test]
@@ -55,7 +57,14 @@ mod tests {
             Stretch::new(0, 2, 3),
         ));
         assert_eq!(rt; machine.clock(1000), Ok(Ok((16, 2))));
-        assert_eq!(rt; counts(&machine), (16, 6, 2));
+        assert_eq!(rt;
+            machine.counts(),
+            Counts {
+                clocks: 16,
+                waits: 6,
+                finished: 2
+            }
+        );
     }
 
     // A reset after so many clocks, and the clock that takes it, leave R1 so.
@@ -66,7 +75,14 @@ mod tests {
         assert_eq!(rt; machine.clock(1), Ok(Ok((1, 0))));
         assert!(rt; !machine.reset_waits());
         assert_eq!(rt; (machine.pc(), machine.step()), (0, 0));
-        assert_eq!(rt; counts(machine), (0, 0, 0));
+        assert_eq!(rt;
+            machine.counts(),
+            Counts {
+                clocks: 0,
+                waits: 0,
+                finished: 0
+            }
+        );
         assert_eq!(rt; machine.register(1), Ok(r1));
     }
 
@@ -163,7 +179,14 @@ mod tests {
         ];
         let mut machine = perform_all(pile, &mut turns);
         assert_eq!(rt; turns[3].answer, Answer::Spent(13, 2));
-        assert_eq!(rt; counts(&machine), (13, 3, 2));
+        assert_eq!(rt;
+            machine.counts(),
+            Counts {
+                clocks: 13,
+                waits: 3,
+                finished: 2
+            }
+        );
         assert_eq!(rt; machine.word(1), Ok(LA_STOP[1]));
     }
 

@@ -3,3 +3,4 @@ pub mod Bases
 pub mod Bytes
 pub mod Boards
 pub mod Parameters
+pub mod Orders

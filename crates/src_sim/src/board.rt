@@ -76,14 +76,17 @@ impl Board {
         })
     }
 
-    // The memory of the board, over words and bytes that are lent. It has both layers: what is not described adds nothing.
-    pub(crate) fn pile<'a>(self, words: &'a mut [u32], bytes: &'a mut [u8]) -> Pile<'a>
-        ensures words { result.below.below.first.elements.now ≡ words.old }
-        ensures bytes { result.below.below.second.elements.now ≡ bytes.old }
+    // The memory of the board, over cells that are lent. It has both layers: what is not described adds nothing.
+    pub(crate) fn pile(self, cells: &mut Cells) -> Pile<'_>
+        ensures words { result.below.below.first.elements.now ≡ cells.old.words.items }
+        ensures bytes { result.below.below.second.elements.now ≡ cells.old.bytes.items }
         ensures stretch { result.below.rule ≡ stretch_of self.slow }
         ensures row { result.rule ≡ record { extra = unwrap_or self.row 0; opened = None } }
     {
-        let pair = Pair::new(WordMemory::new(words), ByteMemory::new(bytes));
+        let pair = Pair::new(
+            WordMemory::new(&mut cells.words),
+            ByteMemory::new(&mut cells.bytes),
+        );
         let slow = SlowStretch::new(pair, self.slow.unwrap_or(NO_STRETCH));
         OpenRow::new(slow, Row::new(self.row.unwrap_or(0)))
     }

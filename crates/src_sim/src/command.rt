@@ -1,4 +1,6 @@
 // The commands of a script.
+ghost use Rattle.src_sim.specs.Orders.{Makes};
+
 use crate::board::BoardPart;
 use run_control::Call;
 
@@ -21,4 +23,17 @@ pub enum Question {
     State,
     Registers,
     List { first: u32, count: u32 },
+}
+
+impl Command {
+    // The call that the command makes, if it makes one.
+    pub(crate) fn call(&self) -> Option<Call<'_>>
+        ensures { Makes self.now result }
+    {
+        match self {
+            Command::Perform(call) => Some(*call),
+            Command::Load(bytes) => Some(Call::Load(bytes)),
+            Command::Describe(_) | Command::Ask(_) | Command::Help => None,
+        }
+    }
 }

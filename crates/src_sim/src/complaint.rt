@@ -38,27 +38,21 @@ impl<T: Drop> From<AllocFailed<T>> for Complaint {
 impl fmt::Display for Complaint {
     fn fmt<W: fmt::Write>(&self, f: &mut fmt::Formatter<W>) -> fmt::Result {
         match self {
-            Complaint::NotText => write!(f, "the line is no text"),
-            Complaint::NoCommand => write!(f, "no such command: help lists them"),
+            Complaint::NotText => f.write_str("the line is no text"),
+            Complaint::NoCommand => f.write_str("no such command: help lists them"),
             Complaint::Form(form) => write!(f, "the form is: {form}"),
             Complaint::NoNumber => {
-                write!(
-                    f,
-                    "a number has decimal digits, or hexadecimal digits after 0x"
-                )
+                f.write_str("a number has decimal digits, or hexadecimal digits after 0x")
             }
             Complaint::TooLarge(most) => write!(f, "a number is above {most}"),
             Complaint::NoBytes => {
-                write!(f, "the bytes of an image have two hexadecimal digits each")
+                f.write_str("the bytes of an image have two hexadecimal digits each")
             }
             Complaint::LateBoard => {
-                write!(
-                    f,
-                    "the board is described before the first call or question"
-                )
+                f.write_str("the board is described before the first call or question")
             }
             Complaint::File(error) => write!(f, "the file cannot be read: {error}"),
-            Complaint::NoMemory => write!(f, "no memory is left for this line"),
+            Complaint::NoMemory => f.write_str("no memory is left for this line"),
         }
     }
 }

@@ -18,7 +18,7 @@ use crate::complaint::Complaint;
 use crate::help::{COMMANDS, Help};
 use crate::hex_bytes::byte;
 use crate::parameters::{count, delay, index, limited, value};
-use anyhow::anyhow;
+use anyhow::bail;
 use isa::{Entry, Hex, Line};
 use machine::{Machine, perform};
 use memory::Stretch;
@@ -138,13 +138,10 @@ fn read_line(rt: &HostRuntime, line: &[u8]) -> Result<Option<Command>, Complaint
 
 // The command in a line, if it has one. What is wrong with the line is told.
 fn heard(rt: &HostRuntime, line: io::Result<Vec<u8>>) -> anyhow::Result<Option<Command>> {
-    match read_line(rt, &line?) {
-        Ok(command) => Ok(command),
-        Err(complaint) => {
-            println!(rt; "? {complaint}")?;
-            Ok(None)
-        }
-    }
+    read_line(rt, &line?).or_else(|complaint| {
+        println!(rt; "? {complaint}")?;
+        Ok(None)
+    })
 }
 
 impl Iterator for Script<'_> {
@@ -199,9 +196,9 @@ enum Ending {
 impl fmt::Display for Ending {
     fn fmt<W: fmt::Write>(&self, f: &mut fmt::Formatter<W>) -> fmt::Result {
         match *self {
-            Ending::Stopped => write!(f, "stopped"),
+            Ending::Stopped => f.write_str("stopped"),
             Ending::Faulted(fault) => write!(f, "{fault}"),
-            Ending::Spent => write!(f, "spent 1000000000 clocks"),
+            Ending::Spent => write!(f, "spent {} clocks", CLOCKS * CALLS),
         }
     }
 }
@@ -211,25 +208,6 @@ impl fmt::Display for Ending {
 struct Session<'a> {
     rt: &'a HostRuntime,
     machine: Machine<Pile<'a>>,
-}
-
-// What a machine has counted.
-#[derive(Clone, Copy)]
-struct Counts {
-    clocks: u64,
-    waits: u64,
-    finished: u64,
-}
-
-impl fmt::Display for Counts {
-    fn fmt<W: fmt::Write>(&self, f: &mut fmt::Formatter<W>) -> fmt::Result {
-        let Counts {
-            clocks,
-            waits,
-            finished,
-        } = self;
-        write!(f, "clocks {clocks} waits {waits} finished {finished}")
-    }
 }
 
 // Tells a value, or why there is none.
@@ -250,14 +228,6 @@ impl<'a> Session<'a> {
         }
     }
 
-    fn counts(&self) -> Counts {
-        Counts {
-            clocks: self.machine.clocks(),
-            waits: self.machine.waits(),
-            finished: self.machine.finished(),
-        }
-    }
-
     // The registers, each at its number.
     fn registers(&self) -> [u32; 32] {
         array::from_fn(|number| self.machine.register(number as u32).unwrap_or(0))
@@ -266,8 +236,8 @@ impl<'a> Session<'a> {
     fn tell_state(&self) -> anyhow::Result<()> {
         let pc = Hex(self.machine.pc());
         let step = self.machine.step();
-        let run = if self.machine.runs() { 1 } else { 0 };
-        let counts = self.counts();
+        let run = u8::from(self.machine.runs());
+        let counts = self.machine.counts();
         println!(self.rt; "pc {pc} step {step} run {run} {counts}")?;
         Ok(())
     }
@@ -306,12 +276,13 @@ impl<'a> Session<'a> {
     }
 
     fn obey(&mut self, command: Command) -> anyhow::Result<()> {
+        if let Some(call) = command.call() {
+            println!(self.rt; "{}", perform(&mut self.machine, call))?;
+        }
         match command {
             Command::Describe(_) => println!(self.rt; "? {}", Complaint::LateBoard)?,
-            Command::Perform(call) => println!(self.rt; "{}", perform(&mut self.machine, call))?,
-            Command::Load(image) => {
-                println!(self.rt; "{}", perform(&mut self.machine, Call::Load(&image)))?
-            }
+            // The call is performed.
+            Command::Perform(_) | Command::Load(_) => (),
             Command::Ask(question) => self.answer(question)?,
             Command::Help => print!(self.rt; "{Help}")?,
         }
@@ -340,7 +311,7 @@ impl<'a> Session<'a> {
         let loaded = perform(&mut self.machine, Call::Load(image));
         let Answer::Done = loaded else {
             println!(self.rt; "{loaded}")?;
-            return Err(anyhow!("the file holds no image"));
+            bail!("the file holds no image");
         };
         let _ = perform(&mut self.machine, Call::Start);
         println!(self.rt; "{}", self.run_to_end())?;
@@ -349,7 +320,7 @@ impl<'a> Session<'a> {
                 println!(self.rt; "r{number} {}", Hex(*value))?;
             }
         }
-        println!(self.rt; "{}", self.counts())?;
+        println!(self.rt; "{}", self.machine.counts())?;
         Ok(())
     }
 }
@@ -360,7 +331,7 @@ fn run_script(rt: &HostRuntime) -> anyhow::Result<()> {
         return Ok(());
     };
     let mut cells = board.cells(rt.alloc())?;
-    let mut session = Session::new(rt, board.pile(&mut cells.words, &mut cells.bytes));
+    let mut session = Session::new(rt, board.pile(&mut cells));
     session.obey(first)?;
     for command in script {
         session.obey(command?)?;
@@ -371,7 +342,7 @@ fn run_script(rt: &HostRuntime) -> anyhow::Result<()> {
 fn run_program(rt: &HostRuntime, path: &str) -> anyhow::Result<()> {
     let image = fs::read(rt, path)?;
     let mut cells = PLAIN.cells(rt.alloc())?;
-    let mut session = Session::new(rt, PLAIN.pile(&mut cells.words, &mut cells.bytes));
+    let mut session = Session::new(rt, PLAIN.pile(&mut cells));
     session.run_image(&image)
 }
 
@@ -380,6 +351,6 @@ fn main(rt: HostRuntime) -> anyhow::Result<()> {
     match (args.next(), args.next()) {
         (None, _) => run_script(&rt),
         (Some(path), None) => run_program(&rt, path.as_str()),
-        _ => Err(anyhow!("usage: src_sim, with a script on standard input, or src_sim FILE")),
+        _ => bail!("usage: src_sim, with a script on standard input, or src_sim FILE"),
     }
 }
