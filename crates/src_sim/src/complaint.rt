@@ -1,58 +1,28 @@
 // Why a line is not obeyed.
-use std::alloc::{AllocError, AllocFailed};
-use std::{fmt, io};
+use std::alloc::AllocError;
+use std::io;
+use thiserror::Error;
 
-#[derive(Drop)]
+#[derive(Debug, Drop, Error)]
 pub enum Complaint {
+    #[error("the line is no text")]
     NotText,
+    #[error("no such command: help lists them")]
     NoCommand,
     // The form of the command, whose words are missing or too many.
+    #[error("the form is: {0}")]
     Form(&'static str),
+    #[error("a number has decimal digits, or hexadecimal digits after 0x")]
     NoNumber,
-    // A number is above the largest that is allowed.
+    // The largest that is allowed.
+    #[error("a number is above {0}")]
     TooLarge(u32),
+    #[error("the bytes of an image have two hexadecimal digits each")]
     NoBytes,
+    #[error("the board is described before the first call or question")]
     LateBoard,
-    File(io::Error),
-    NoMemory,
-}
-
-impl From<AllocError> for Complaint {
-    fn from(_error: AllocError) -> Complaint {
-        Complaint::NoMemory
-    }
-}
-
-impl From<io::Error> for Complaint {
-    fn from(error: io::Error) -> Complaint {
-        Complaint::File(error)
-    }
-}
-
-impl<T: Drop> From<AllocFailed<T>> for Complaint {
-    fn from(_refused: AllocFailed<T>) -> Complaint {
-        Complaint::NoMemory
-    }
-}
-
-impl fmt::Display for Complaint {
-    fn fmt<W: fmt::Write>(&self, f: &mut fmt::Formatter<W>) -> fmt::Result {
-        match self {
-            Complaint::NotText => f.write_str("the line is no text"),
-            Complaint::NoCommand => f.write_str("no such command: help lists them"),
-            Complaint::Form(form) => write!(f, "the form is: {form}"),
-            Complaint::NoNumber => {
-                f.write_str("a number has decimal digits, or hexadecimal digits after 0x")
-            }
-            Complaint::TooLarge(most) => write!(f, "a number is above {most}"),
-            Complaint::NoBytes => {
-                f.write_str("the bytes of an image have two hexadecimal digits each")
-            }
-            Complaint::LateBoard => {
-                f.write_str("the board is described before the first call or question")
-            }
-            Complaint::File(error) => write!(f, "the file cannot be read: {error}"),
-            Complaint::NoMemory => f.write_str("no memory is left for this line"),
-        }
-    }
+    #[error("the file cannot be read: {0}")]
+    File(#[from] io::Error),
+    #[error("no memory is left for this line")]
+    NoMemory(#[from(alloc)] AllocError),
 }
