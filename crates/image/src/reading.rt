@@ -22,7 +22,7 @@ pub fn read(bytes: &[u8], size: u32) -> Result<Image<'_>, ImageRefusal>
     opened(bytes, size)
 }
 
-// Apart from `read`, since what `read` promises besides follows from this for all its answers at once.
+// The body of `read`, apart so that what it promises besides is proved once of its answer, not at each return.
 fn opened(bytes: &[u8], size: u32) -> Result<Image<'_>, ImageRefusal>
     ensures { told result ≡ reading size bytes.now }
 {
