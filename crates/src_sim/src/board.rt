@@ -2,7 +2,7 @@
 ghost use Rattle.std.specs.Prelude.{◌≡◌, None, IfOk, replicate, unwrap_or};
 ghost use Rattle.src_sim.specs.Boards.{described, stretch_of};
 
-use memory::{ByteMemory, OpenRow, Pair, Row, SlowStretch, Stretch, WordMemory};
+use memory::{ByteMemory, MOST_WORDS, OpenRow, Pair, Row, SlowStretch, Stretch, WordMemory};
 use std::alloc::{AllocError, Global};
 
 // A command that describes a part of the board.
@@ -24,7 +24,7 @@ pub struct Board {
 
 // The board where nothing is described.
 pub const PLAIN: Board = Board {
-    words: 8192,
+    words: MOST_WORDS,
     bytes: 0,
     slow: None,
     row: None,

@@ -2,6 +2,7 @@
 use std::fmt;
 
 // The form of each command, and what it does.
+// Kept: the patterns that read the commands stand beside, in `main`, since a pattern is no value.
 pub static COMMANDS: [(&str, &str); 19] = [
     ("words N", "the board has a word memory over N words"),
     ("bytes N", "and after it a byte memory over N bytes"),

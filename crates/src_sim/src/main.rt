@@ -49,6 +49,7 @@ fn misspelt(name: &str) -> Complaint {
         .map_or(Complaint::NoCommand, |(form, _)| Complaint::Form(form))
 }
 
+// Kept: the four functions that follow each read one group of commands, or say that the words are none of it; one match over all nineteen would be too long for a function.
 fn board_part(words: &[&str]) -> Result<Option<BoardPart>, Complaint> {
     Ok(Some(match words {
         ["words", n] => BoardPart::Words(limited(n, 65_536)?),
