@@ -1,8 +1,8 @@
 -- Iterators over a list: their progress, and the turns of one that has segments left. Assumes nothing.
-use Rattle.std.proofs.Common.{◌≡◌, ℕ, zero, suc, ◌+◌, ◌<◌, ◌≤◌, List, [], ◌∷◌, length, take, drop, Some, None, Option, sym, ap, ◌∙◌, arith}
+use Rattle.std.proofs.Common.{◌≡◌, ℕ, suc, ◌+◌, ◌<◌, ◌≤◌, List, [], ◌∷◌, length, take, drop, Some, None, Option, sym, ap, ◌∙◌, arith}
 use Rattle.std.proofs.Math.Seq.{drop-cons}
 use Rattle.std.proofs.lemmas.List.{drop_all, get_or-take, length-take}
-use Rattle.std.proofs.lemmas.Option.{slice_get_within, get_or_from_slice_get}
+use Rattle.std.proofs.lemmas.Option.{slice_get_cases, slice_get_within, get_or_from_slice_get}
 use Rattle.std.specs.Iterator.{MakesProgress, YieldsFirstBy, item_count}
 use Rattle.std.specs.List.{slice_get}
 use Rattle.std.specs.Option.{option_map, MatchOption}
@@ -16,9 +16,7 @@ progress can view rest s t (Some x) c e = record { on = λ f. (c, tt, omega (ari
 progress can view rest s t None c e = record { on = λ f. tt; keeps = tt; rests = λ f. tt }
 
 missing_past : {A : Type 0} (xs : List A) (i : ℕ) → None ≡ slice_get xs i → length xs ≤ i
-missing_past [] i e = omega arith
-missing_past (x ∷ xs) zero e = absurd (let z : ◌≡◌ {A = ℕ} 0 1 = cc in omega arith)
-missing_past (x ∷ xs) (suc i) e = let r = missing_past xs i e in omega arith
+missing_past xs i e = let c = slice_get_cases xs i in grind arith
 
 -- the segments from n to m, where the one at n is asked for, and those after it
 pub turn : (segments : List Segment) (n m next end at : ℕ) (o : Option ImagePart) → n < m → at ≡ n → next ≡ n + 1 → end ≡ m → option_map segment_of o ≡ slice_get segments at →

@@ -13,6 +13,7 @@ use Rattle.run_control.specs.declared.calls.Call.{Call}
 use Rattle.run_control.specs.declared.calls.Call.TheVariants.{Start, Resume, Reset, SetRegister, SetWord, Load, Clock}
 use Rattle.run_control.specs.declared.calls.Answer.{Answer}
 use Rattle.run_control.specs.declared.calls.Turn.{Turn}
+use Rattle.onebus.proofs.Registers.{all_small}
 use Rattle.rows.specs.Runs.{Fits}
 use Rattle.run_control.specs.Core.{Core, CoreFacts, Outcome, Small, seen, zeros}
 use Rattle.run_control.specs.Core.Outcome.{more, done, failed}
@@ -24,13 +25,8 @@ use Rattle.run_control.proofs.Fits.{set_small, register_fits, pc_fits}
 use Rattle.run_control.proofs.Images.{image_small}
 use Rattle.run_control.proofs.Ticks.{Short, Ties, fresh_mid, mid_keeps, told_book, told_stands, fault_of_clock, tick_ties}
 
-zeros_by : (n : ℕ) → Small (replicate n 0)
-zeros_by zero i = omega arith
-zeros_by (suc n) zero = omega arith
-zeros_by (suc n) (suc i) = zeros_by n i
-
 zeros_small : Small zeros
-zeros_small = zeros_by 32
+zeros_small = all_small
 
 module _ (k : Core) (f : CoreFacts k) where
   -- what a call under way has done: n instructions of the book b, and one more where a fault ended it

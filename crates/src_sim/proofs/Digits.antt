@@ -1,6 +1,5 @@
 -- Digits read one by one. Assumes nothing.
-use Rattle.std.proofs.Common.{◌≡◌, ℕ, suc, ◌+◌, ◌*◌, ◌<◌, ◌≤◌, min, Bool, true, false, cond, ◌&&◌, ltb, List, [], ◌∷◌, length, get_or, drop, Some, None, Option, refl, ap, ◌∙◌, ⊎_elim, le-mul_of_pos_right, add-one, arith, drop-cons}
-use lib.Seq.{drop-length}
+use Rattle.std.proofs.Common.{◌≡◌, ℕ, suc, ◌+◌, ◌*◌, ◌<◌, min, Bool, true, false, cond, ◌&&◌, ltb, List, [], ◌∷◌, length, get_or, drop, Some, None, Option, refl, ap, ⊎_elim, le-mul_of_pos_right, add-one, arith, drop-cons}
 use Rattle.std.specs.Str.Parse.{digits_value_after}
 use Rattle.std.specs.Char.{digit_value}
 use Rattle.std.proofs.str.Laws.{order}
@@ -48,20 +47,6 @@ digit_step false base n v d rest pos is = let never : ◌≡◌ {A = ℕ} 0 1 = 
 pub one_more : (base n d i : ℕ) (cs : List ℕ) → 0 < base → i < length cs → digit_of base (get_or cs i 0) ≡ Some d → read_on base (min most (n * base + d)) (drop (i + 1) cs) ≡ read_on base n (drop i cs)
 one_more base n d i cs pos lt is =
     rw (add-one, drop-cons cs i 0) (digit_step (ltb (digit_value (get_or cs i 0)) base) base n (digit_value (get_or cs i 0)) d (drop (suc i) cs) pos is)
-
-digit_stop : (b : Bool) (v : ℕ) (o : Option ℕ) → cond b (Some v) None ≡ None → cond b o None ≡ None
-digit_stop true v o is = let never : ◌≡◌ {A = ℕ} 0 1 = cc in absurd (omega arith)
-digit_stop false v o is = refl
-
--- no digit
-pub no_digit : (base n i : ℕ) (cs : List ℕ) → i < length cs → digit_of base (get_or cs i 0) ≡ None → read_on base n (drop i cs) ≡ None
-no_digit base n i cs lt is =
-    rw (drop-cons cs i 0) (digit_stop (ltb (digit_value (get_or cs i 0)) base) (digit_value (get_or cs i 0)) (read_on base (n * base + digit_value (get_or cs i 0)) (drop (suc i) cs)) is)
-
--- all digits
-pub no_more : (base n i : ℕ) (cs : List ℕ) → i ≡ length cs → n ≤ most → read_on base n (drop i cs) ≡ Some n
-no_more base n i cs all fits =
-    ap (λ k. read_on base n (drop k cs)) all ∙ ap (read_on base n) (drop-length cs) ∙ ap Some (omega arith)
 
 -- a base has digits
 pub has_digits : (base : Base) → 0 < radix_of base

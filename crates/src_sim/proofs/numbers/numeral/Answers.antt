@@ -1,6 +1,6 @@
 use Rattle.std.proofs.Common.{sym, ◌∙◌, arith, false-eqb}
 use Rattle.src_sim.specs.Bases.{radix_of}
-use Rattle.src_sim.proofs.Digits.{from_none, one_more, no_digit, no_more, has_digits}
+use Rattle.src_sim.proofs.Digits.{from_none, one_more, has_digits}
 use Rattle.src_sim.proofs.numbers.numeral.Goals as goal
 
 pub loop-byte-init : goal.loop-byte-init
@@ -9,11 +9,6 @@ loop-byte-init c = record {
   read = from_none (radix_of c.args.base) c.args.digits.now (omega (arith, false-eqb _ 0 c.if-is_empty.ensures));
 }
 
-pub returns-in_err-digit : goal.returns-in_err-digit
-returns-in_err-digit c =
-    let none = no_digit (radix_of c.args.base) c.loop-byte.number c.loop-byte.byte-index c.args.digits.now c.loop-byte-test.true (sym c.digit_in.ensures ∙ c.in_err-digit.was) in
-    c.from_residual.ensures ∙ sym none ∙ c.loop-byte.invariant.read
-
 pub loop-byte-preserved : goal.loop-byte-preserved
 loop-byte-preserved c =
     let is = sym c.digit_in.ensures ∙ c.in_ok-digit.was in
@@ -21,6 +16,3 @@ loop-byte-preserved c =
       fits = omega arith;
       read = rw c.with_digit-number.ensures (one_more (radix_of c.args.base) c.loop-byte.number c.in_ok-digit.digit c.loop-byte.byte-index c.args.digits.now (has_digits c.args.base) c.loop-byte-test.true is ∙ c.loop-byte.invariant.read);
     }
-
-pub returns : goal.returns
-returns c = sym (no_more (radix_of c.args.base) c.loop-byte.number c.loop-byte.byte-index c.args.digits.now (omega arith) c.loop-byte.invariant.fits) ∙ c.loop-byte.invariant.read
