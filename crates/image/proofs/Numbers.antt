@@ -1,11 +1,12 @@
 -- The numbers of bytes: which one stands where, and that writing and reading a number are inverse. Assumes nothing.
-use Rattle.std.proofs.Common.{◌≡◌, ℕ, zero, suc, ◌+◌, ◌-◌, ◌*◌, ◌/◌, ◌%◌, ◌^◌, ◌<◌, ◌≤◌, List, [], ◌∷◌, ◌++◌, length, get_or, take, drop, Some, None, sym, refl, ap, ◌∙◌, subst, add_assoc, arith}
+use Rattle.std.proofs.Common.{◌≡◌, ℕ, zero, suc, ◌+◌, ◌-◌, ◌*◌, ◌/◌, ◌%◌, ◌^◌, ◌<◌, ◌≤◌, List, [], ◌∷◌, ◌++◌, length, get_or, take, drop, Some, None, sym, refl, ap, ◌∙◌, add_assoc, arith}
 use Rattle.std.proofs.lemmas.List.{get_or-drop, drop_at, drop-drop, length-drop}
 use Rattle.std.proofs.ByRecursion.{All-drop}
 use Rattle.std.proofs.lemmas.Option.{slice_get_past}
 use Rattle.std.specs.Int.{w32, from_be_bytes}
 use Rattle.std.specs.Simd.{first_chunks}
 use Rattle.std.specs.List.{slice_get, flat_map, AllByRecursion}
+use Rattle.memory.proofs.Packed.{chunk_byte}
 use Rattle.image.specs.Numbers.{number, number_at, words_of, number_bytes}
 
 -- the number at i of what is left past n
@@ -25,6 +26,7 @@ number_past bs tail n i j t e = ap (λ xs. number_at xs i) t ∙ number_at_drop 
 pub number_at_append : (xs ys : List ℕ) (n i : ℕ) → length xs ≡ n → number_at (xs ++ ys) (n + i) ≡ number_at ys i
 number_at_append xs ys n i e = sym (number_at_drop n i (xs ++ ys)) ∙ ap (λ zs. number_at zs i) (drop_at xs ys n e)
 
+-- Kept: the lemmas that go by four bytes split lists alike, as `words_of` does; each is an induction of its own.
 pub length_words : (bs : List ℕ) → length (words_of bs) ≡ length bs / 4
 length_words [] = refl
 length_words (a ∷ []) = refl
@@ -46,27 +48,6 @@ words_first (a ∷ (b ∷ (c ∷ (d ∷ rest)))) n h e small =
     let same : number a b c d ≡ n = omega (arith, e, small) in
     ap (λ x. x ∷ words_of rest) same
 
--- the word that one chunk of four bytes is, or one after it
-chunk_at : (a b c d : ℕ) (rest : List ℕ) (k n : ℕ) (chunk none : List ℕ) → k < suc (length rest / 4) →
-    chunk ≡ get_or ((a ∷ (b ∷ (c ∷ (d ∷ [])))) ∷ first_chunks 4 (length rest / 4) rest) k none → n ≡ from_be_bytes w32 chunk → n < 2 ^ 32 →
-    ((j : ℕ) → j < length rest / 4 → chunk ≡ get_or (first_chunks 4 (length rest / 4) rest) j none → Some n ≡ slice_get (words_of rest) j) → Some n ≡ slice_get (number a b c d ∷ words_of rest) k
-chunk_at a b c d rest zero n chunk none h i e small later =
-    let here : n ≡ from_be_bytes w32 (a ∷ (b ∷ (c ∷ (d ∷ [])))) = e ∙ ap (from_be_bytes w32) i in
-    let same : n ≡ number a b c d = omega (arith, here, small) in
-    ap Some same
-chunk_at a b c d rest (suc j) n chunk none h i e small later = later j (omega arith) i
-
--- the word that the chunk k of four bytes is
-pub word_of_chunk : (bs : List ℕ) (k n : ℕ) (chunk none : List ℕ) → k < length bs / 4 → chunk ≡ get_or (first_chunks 4 (length bs / 4) bs) k none → n ≡ from_be_bytes w32 chunk → n < 2 ^ 32 → Some n ≡ slice_get (words_of bs) k
-word_of_chunk [] k n chunk none h c e small = absurd (omega arith)
-word_of_chunk (a ∷ []) k n chunk none h c e small = absurd (omega arith)
-word_of_chunk (a ∷ (b ∷ [])) k n chunk none h c e small = absurd (omega arith)
-word_of_chunk (a ∷ (b ∷ (c ∷ []))) k n chunk none h i e small = absurd (omega arith)
-word_of_chunk (a ∷ (b ∷ (c ∷ (d ∷ rest)))) k n chunk none h i e small =
-    let bs = a ∷ (b ∷ (c ∷ (d ∷ rest))) in
-    let more : length bs / 4 ≡ suc (length rest / 4) = omega arith in
-    chunk_at a b c d rest k n chunk none (omega arith) (subst (λ m. chunk ≡ get_or (first_chunks 4 m bs) k none) more i) e small (λ j h i. word_of_chunk rest j n chunk none h i e small)
-
 -- the word k is the number at its first byte
 word_at : (bs : List ℕ) (k : ℕ) → k < length bs / 4 → slice_get (words_of bs) k ≡ Some (number_at bs (4 * k))
 word_at [] k h = absurd (omega arith)
@@ -83,8 +64,13 @@ word_at (a ∷ (b ∷ (c ∷ (d ∷ rest)))) (suc j) h =
 pub number_of_chunk : (bs : List ℕ) (k n : ℕ) (chunk none : List ℕ) → 4 * k + 4 ≤ length bs → chunk ≡ get_or (first_chunks 4 (length bs / 4) bs) k none → n ≡ from_be_bytes w32 chunk → n < 2 ^ 32 → n ≡ number_at bs (4 * k)
 number_of_chunk bs k n chunk none h c e small =
     let there : k < length bs / 4 = omega arith in
-    let same : Some n ≡ Some (number_at bs (4 * k)) = word_of_chunk bs k n chunk none there c e small ∙ word_at bs k there in
-    cc
+    let at : (i j : ℕ) → i < 4 → 4 * k + i ≡ j → get_or chunk i 0 ≡ get_or bs j 0 =
+    λ i j h d. ap (λ (l : List ℕ). get_or l i 0) c ∙ chunk_byte (length bs / 4) k i j bs none there h d in
+    omega (arith, e, small, at 0 (4 * k) (omega arith) (omega arith), at 1 (4 * k + 1) (omega arith) refl, at 2 (4 * k + 2) (omega arith) refl, at 3 (4 * k + 3) (omega arith) refl)
+
+-- the word that it is
+pub word_of_chunk : (bs : List ℕ) (k n : ℕ) (chunk none : List ℕ) → k < length bs / 4 → chunk ≡ get_or (first_chunks 4 (length bs / 4) bs) k none → n ≡ from_be_bytes w32 chunk → n < 2 ^ 32 → Some n ≡ slice_get (words_of bs) k
+word_of_chunk bs k n chunk none h c e small = ap Some (number_of_chunk bs k n chunk none (omega arith) c e small) ∙ sym (word_at bs k h)
 
 -- words are of 32 bits
 pub words_below : (bs : List ℕ) → AllByRecursion (λ v. v < 2 ^ 32) (words_of bs)

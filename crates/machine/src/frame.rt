@@ -2,7 +2,7 @@
 use crate::counts::Counts;
 use onebus::Core;
 
-// Kept: clauses say `view M.Memory`, as a `Model` of a machine would hold the memory's delays, and a function has no code ("nothing proves `Coded Delays`").
+// Kept: clauses say `view M.Memory` and `lent M.Memory`, as the value of a `Model` would hold the memory's delays, and a function has no code ("nothing proves `Coded Delays`").
 /// A machine over the memory `M`.
 #[derive(Drop)]
 pub struct Machine<M> {

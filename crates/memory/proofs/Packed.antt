@@ -54,16 +54,17 @@ packed_fits bs h k = ⊎_elim
     (cases_lt k (length bs / 4))
 
 -- chunk number n of four bytes each, of k
-chunk_at : (k n : ℕ) (bs : List ℕ) → n < k → get_or (first_chunks 4 k bs) n [] ≡ take 4 (drop (4 * n) bs)
-chunk_at zero n bs h = absurd (omega arith)
-chunk_at (suc k) zero bs h = refl
-chunk_at (suc k) (suc n) bs h =
+chunk_at : (k n : ℕ) (bs none : List ℕ) → n < k → get_or (first_chunks 4 k bs) n none ≡ take 4 (drop (4 * n) bs)
+chunk_at zero n bs none h = absurd (omega arith)
+chunk_at (suc k) zero bs none h = refl
+chunk_at (suc k) (suc n) bs none h =
     let e : 4 + 4 * n ≡ 4 * suc n = omega arith in
-    chunk_at k n (drop 4 bs) (omega arith) ∙ ap (take 4) (drop-drop (4 * n) 4 bs ∙ ap (λ m. drop m bs) e)
+    chunk_at k n (drop 4 bs) none (omega arith) ∙ ap (take 4) (drop-drop (4 * n) 4 bs ∙ ap (λ m. drop m bs) e)
 
-chunk_byte : (k n i j : ℕ) (bs : List ℕ) → n < k → i < 4 → 4 * n + i ≡ j → get_or (get_or (first_chunks 4 k bs) n []) i 0 ≡ get_or bs j 0
-chunk_byte k n i j bs here h e =
-    ap (λ (l : List ℕ). get_or l i 0) (chunk_at k n bs here) ∙ get_or-take 4 _ i 0 h ∙ get_or-drop (4 * n) bs i 0 ∙ ap (λ m. get_or bs m 0) e
+-- byte i of that chunk is byte j of all
+pub chunk_byte : (k n i j : ℕ) (bs none : List ℕ) → n < k → i < 4 → 4 * n + i ≡ j → get_or (get_or (first_chunks 4 k bs) n none) i 0 ≡ get_or bs j 0
+chunk_byte k n i j bs none here h e =
+    ap (λ (l : List ℕ). get_or l i 0) (chunk_at k n bs none here) ∙ get_or-take 4 _ i 0 h ∙ get_or-drop (4 * n) bs i 0 ∙ ap (λ m. get_or bs m 0) e
 
 -- a word as the code reads it, from the bytes in chunks
 pub chunk_word : (bs : List ℕ) (n : ℕ) (chunks : List (List ℕ)) → chunks ≡ first_chunks 4 (length bs / 4) bs → (r : ℕ) → n < length (word_list (packed bs)) → r < 2 ^ 32
@@ -72,7 +73,7 @@ chunk_word bs n chunks is r there fits e =
     let k = length bs / 4 in
     let here : n < k = omega (arith, words_length (packed bs), packed_length bs) in
     let at : (i j : ℕ) → i < 4 → 4 * n + i ≡ j → get_or (get_or chunks n []) i 0 ≡ get_or bs j 0 =
-    λ i j h d. ap (λ (l : List (List ℕ)). get_or (get_or l n []) i 0) is ∙ chunk_byte k n i j bs here h d in
+    λ i j h d. ap (λ (l : List (List ℕ)). get_or (get_or l n []) i 0) is ∙ chunk_byte k n i j bs [] here h d in
     let word : r ≡ packed_word bs n =
     omega (arith, e, at 0 (4 * n) (omega arith) (omega arith), at 1 (4 * n + 1) (omega arith) refl, at 2 (4 * n + 2) (omega arith) refl, at 3 (4 * n + 3) (omega arith) refl) in
     words_read (packed bs) n r there fits (word ∙ sym (packed_get_or bs n here))

@@ -2,6 +2,7 @@ use Rattle.std.proofs.Common.{Ok, Err, ap, ◌∙◌}
 use Rattle.machine.proofs.Steps.{a_step}
 use Rattle.machine.proofs.frame.Machine.advance.Goals as goal
 
+-- Kept: each exit hands its facts to the one lemma, since they come as a record of its own type.
 pub returns-in-Ok-Within : goal.returns-in-Ok-Within
 returns-in-Ok-Within g c =
     let h = (a_step g.M.Memory c.args.self.now _ c.step-2.new.self c.step-2.new.memory c.fetched_from-from.ensures.fits.step c.step-2.ensures).within (c.in-Ok-Within.is ∙ ap Ok c.in-Ok-Within.field-0-is) in
