@@ -40,6 +40,7 @@ fn opened(bytes: &[u8], size: u32) -> Result<Image<'_>, ImageRefusal>
     let segments = number(trailer, 1);
     let back = number(trailer, 2);
     let before = rest.len();
+    // Kept: one test of both numbers and not `checked_sub`, since one refusal tells both, with what stands before the trailer.
     if segments > 64 || back as usize > before {
         return Err(ImageRefusal::Trailer {
             segments,

@@ -5,6 +5,7 @@ use std::alloc::{AllocError, Global};
 use std::process::Abort;
 use std::test::Fail;
 
+// Kept: written out, as in the machine's tests, since a test does not take the mark from what it tests.
 const MARK: u32 = 0x53524349;
 
 // Two words from number 0 on, and two from number 4 on with one from number 6 on.

@@ -14,6 +14,9 @@ use memory::Memory;
 use onebus::{Core, CoreFault, Progress};
 use run_control::{MachineFault, Refusal};
 
+/// The most clocks that a call spends.
+pub const MOST_WANTED: u64 = 1_000_000;
+
 // From where the instruction under way was fetched.
 fn fetched_from(core: &Core) -> u32
     ensures from { result ≡ fetched_from core.now }
@@ -113,7 +116,7 @@ impl<M: Memory> Machine<M> {
         if !self.run {
             return Err(Refusal::Stopped);
         }
-        if wanted == 0 || wanted > 1_000_000 {
+        if wanted == 0 || wanted > MOST_WANTED {
             return Err(Refusal::ClockCount { wanted });
         }
         let clocks = self.counted_clocks();

@@ -4,8 +4,9 @@ ghost use Rattle.machine.specs.Texts.{counts_text};
 
 use std::fmt;
 
-// What the count of clocks never passes, as `bounded` says.
-pub(crate) const MOST_CLOCKS: u64 = 1_000_000_000_000;
+// Kept: clauses write the number out, as a ghost field cannot name a constant ("not in scope").
+/// What the count of clocks never passes, as `bounded` says.
+pub const MOST_CLOCKS: u64 = 1_000_000_000_000;
 
 /// The clocks since the last start, resume or reset, how many of them were waits, and the instructions finished in them.
 #[derive(Clone, Copy, Debug, PartialEq, Eq)]

@@ -8,6 +8,7 @@ mod frame;
 mod performing;
 mod questions;
 
-pub use counts::Counts;
+pub use clock::MOST_WANTED;
+pub use counts::{Counts, MOST_CLOCKS};
 pub use frame::Machine;
 pub use performing::{perform, perform_all};

@@ -3,7 +3,7 @@ use Rattle.std.proofs.Common.{◌≡◌, ℕ, zero, suc, ◌^◌, ◌<◌, min, 
 use Rattle.std.proofs.lemmas.List.{length-map, get_or-map, map-set, length-take, get_or-take}
 use Rattle.memory.specs.Memory.{cut, wrap, word_list, loan_of}
 
--- Kept: the library has this in two halves, for places before the cut and from it on.
+-- Kept: a crate over `std` reaches this in two halves only, for places before the cut and from it on.
 take_of_set : (m : ℕ) (ws : List ℕ) (n v : ℕ) → take m (set ws n v) ≡ set (take m ws) n v
 take_of_set zero ws n v = refl
 take_of_set (suc m) [] n v = refl

@@ -5,6 +5,7 @@ ghost use Rattle.memory.specs.Memory.{Loan, Laws, Asked, Read, Written};
 /// At most this many words are in a memory.
 pub const MOST_WORDS: u32 = 8192;
 
+// Kept: no `Error` and no text, since the core, run control and an answer each tell it in other words.
 /// The refusal of a word number that is not below the memory's size.
 #[derive(Clone, Copy, Debug, PartialEq, Eq)]
 pub struct MemoryFault {

@@ -20,7 +20,7 @@ use crate::hex_bytes::byte;
 use crate::parameters::{count, delay, index, limited, value};
 use anyhow::bail;
 use isa::{Entry, Hex, Line};
-use machine::{Machine, perform};
+use machine::{MOST_WANTED, Machine, perform};
 use memory::Stretch;
 use run_control::{Answer, Call, MachineFault, Refusal};
 use std::alloc::Global;
@@ -181,9 +181,7 @@ impl<'a> Script<'a> {
     }
 }
 
-// The clocks of one call, and how many calls there are at most.
-const CLOCKS: u64 = 1_000_000;
-
+// How many clock calls there are at most, each of as many clocks as a call may spend.
 const CALLS: u64 = 1000;
 
 #[derive(Clone, Copy)]
@@ -199,7 +197,7 @@ impl fmt::Display for Ending {
         match *self {
             Ending::Stopped => f.write_str("stopped"),
             Ending::Faulted(fault) => write!(f, "{fault}"),
-            Ending::Spent => write!(f, "spent {} clocks", CLOCKS * CALLS),
+            Ending::Spent => write!(f, "spent {} clocks", MOST_WANTED * CALLS),
         }
     }
 }
@@ -255,11 +253,9 @@ impl<'a> Session<'a> {
     // Words from the first on, up to one that is not there.
     fn list(&mut self, first: u32, count: u32) -> anyhow::Result<()> {
         for number in (0..count).map(|k| first.saturating_add(k)) {
-            let told = self.machine.word(number).map(|word| Entry { number, word });
-            let ends = told.is_err();
-            tell(self.rt, told)?;
-            if ends {
-                break;
+            match self.machine.word(number) {
+                Ok(word) => println!(self.rt; "{}", Entry { number, word })?,
+                refused => return tell(self.rt, refused.map(Hex)),
             }
         }
         Ok(())
@@ -293,7 +289,7 @@ impl<'a> Session<'a> {
     // Clocks the machine, which was started, until it ends. A fault is told with the clocks and the instructions of the whole run.
     fn run_to_end(&mut self) -> Ending {
         for _ in 0..CALLS {
-            if let Answer::Faulted(fault) = perform(&mut self.machine, Call::Clock(CLOCKS)) {
+            if let Answer::Faulted(fault) = perform(&mut self.machine, Call::Clock(MOST_WANTED)) {
                 return Ending::Faulted(MachineFault {
                     spent: self.machine.clocks(),
                     finished: self.machine.finished(),

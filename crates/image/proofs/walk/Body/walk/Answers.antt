@@ -5,7 +5,7 @@ use Rattle.image.specs.Views.{segment_of}
 use Rattle.image.proofs.Walks.{turn_past, turn_found, turned_down, ended, left_over}
 use Rattle.image.proofs.walk.Body.walk.Goals as goal
 
--- Kept: each exit hands its facts to the one lemma, since they come as a record of its own type.
+-- Kept: each exit has a lemma of its own, to which it hands its facts, since they come as a record of its own type.
 pub returns-in_err-before : goal.returns-in_err-before
 returns-in_err-before c =
     let l = c.loop-segment in

@@ -35,5 +35,5 @@ returns-in-Err-clause-clocks g c =
     let x = c.tick.new.self.memory in
     let so = c.loop-self.invariant in
     let room : counted s + c.args.wanted ≤ 1000000000000 = rw (← c.counted_clocks-clocks.ensures) (omega arith) in
-    goes one_bus one_bus_facts m.delay s c.args.wanted u _ (so.sofar.0 ++ x ∷ []) c.if-not-self.false c.if-wanted-eq0.false c.if-wanted-gt1000000.false room
+    goes one_bus one_bus_facts m.delay s c.args.wanted u _ (so.sofar.0 ++ x ∷ []) c.if-not-self.false c.if-wanted-eq0.false c.if-wanted-gt-MOST_WANTED.false room
     (spends_fault one_bus one_bus_facts m.delay s t _ _ so.sofar.0 so.sofar.1 u x c.args.wanted (c.in-Err.core, c.in-Err.instruction) c.loop-self-test.true c.tick.ensures.state c.in-Err.ensures.answer c.if-spent-wanted.true)
