@@ -1,4 +1,6 @@
 // The machine: run control around the one-bus core, over any memory.
+ghost use Rattle.onebus.specs.View.{Fits};
+
 use crate::counts::Counts;
 use onebus::Core;
 
@@ -17,4 +19,6 @@ pub struct Machine<M> {
     // the waits left of a Wait step that has begun
     pub(crate) left: Option<u8>,
     pub(crate) counts: Counts,
+    // The core's n, T and R0 to R31 fit their bits.
+    ghost fits: { Fits core },
 }

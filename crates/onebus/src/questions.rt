@@ -10,18 +10,20 @@ use rows::Signal;
 impl Core {
     /// A register, where there is one of that number.
     pub fn register(&self, i: usize) -> Option<u32>
-        ensures { result ≡ (if nat_lt i 32 then Some (slice_index self.now.regs i) else None) }
+        ensures value { result ≡ (if nat_lt i 32 then Some (slice_index self.now.regs i) else None) }
+        ensures fits { Fits self.now }
     {
         self.regs.get(i).copied()
     }
 
     pub fn pc(&self) -> u32
-        ensures { result ≡ self.now.pc }
+        ensures value { result ≡ self.now.pc }
+        ensures fits { Fits self.now }
     {
         self.pc
     }
 
-    /// The step T. A caller learns here what every core meets.
+    /// The step T.
     pub fn step_number(&self) -> u8
         ensures step { result ≡ self.now.t }
         ensures fits { Fits self.now }
@@ -31,7 +33,8 @@ impl Core {
 
     /// Is the step at hand a Wait step?
     pub fn is_wait_step(&self) -> bool
-        ensures { result ≡ waits table self.now }
+        ensures value { result ≡ waits table self.now }
+        ensures fits { Fits self.now }
     {
         let word = self.control_word();
         word.has(Signal::Wait) && word.allows(self.n)
@@ -39,21 +42,24 @@ impl Core {
 
     /// The address that a read or a write uses.
     pub fn address(&self) -> u32
-        ensures { result ≡ self.now.ma }
+        ensures value { result ≡ self.now.ma }
+        ensures fits { Fits self.now }
     {
         self.ma
     }
 
     /// Is that address a multiple of four?
     pub fn is_aligned(&self) -> bool
-        ensures { result ≡ (self.now.ma % 4 == 0) }
+        ensures value { result ≡ (self.now.ma % 4 == 0) }
+        ensures fits { Fits self.now }
     {
         self.address() % 4 == 0
     }
 
     /// The number of the word at that address.
     pub fn word_number(&self) -> u32
-        ensures { result ≡ self.now.ma / 4 }
+        ensures value { result ≡ self.now.ma / 4 }
+        ensures fits { Fits self.now }
     {
         self.address() / 4
     }

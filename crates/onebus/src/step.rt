@@ -3,6 +3,7 @@ ghost use Rattle.std.specs.Prelude.{◌≡◌};
 ghost use Rattle.rows.specs.Rows.{table};
 ghost use Rattle.rows.specs.Core.{bus, stored, at_step, rowless, control_at};
 ghost use Rattle.onebus.specs.Steps.{progress_of, Reads, Writes, Accesses, Stepped};
+ghost use Rattle.onebus.specs.View.{Fits};
 
 use crate::control::ControlWord;
 use crate::datapath::raised;
@@ -18,7 +19,8 @@ impl Core {
     // Kept: the look-up stands here again, as the control word by any code and step tests both, and these two are known to fit.
     /// The control word of IR's operation at the step T.
     pub fn control_word(&self) -> ControlWord
-        ensures { result.0 ≡ control_at table self.now }
+        ensures word { result.0 ≡ control_at table self.now }
+        ensures fits { Fits self.now }
     {
         ControlWord(control_store()[Field::Op.of(self.ir) as usize * 8 + self.t as usize])
     }
@@ -115,9 +117,13 @@ impl Core {
 
     /// One step under our control store.
     pub fn step<M: Memory>(&mut self, memory: &mut M) -> Result<Progress, CoreFault>
-        ensures { Stepped M.Memory (control_at table self.old) self.old memory.old result self.new memory.new }
+        ensures step { Stepped M.Memory (control_at table self.old) self.old memory.old result self.new memory.new }
+        ensures fits { Fits self.new }
     {
         let word = self.control_word();
-        self.step_under(word, memory)
+        let progress = self.step_under(word, memory);
+        // Reading a field tells the proof what every core meets.
+        let _ = &self.t;
+        progress
     }
 }
