@@ -1,8 +1,8 @@
 // Runs a script of calls on a machine, read from standard input, or with `src_sim FILE` the program in an image.
 #![tactic(auto)]
 
+ghost use Rattle.std.specs.Prelude.{◌-◌};
 ghost use Rattle.std.specs.Iterator.{at_most};
-ghost use Rattle.std.specs.Io.Iter.{pieces_left_to_read};
 
 mod board;
 mod command;
@@ -24,7 +24,8 @@ use machine::{MOST_WANTED, Machine, perform};
 use memory::Stretch;
 use run_control::{Answer, Call, MachineFault, Refusal};
 use std::alloc::Global;
-use std::io::{BufRead, BufReader, Split, Stdin};
+use std::io::{BufRead, BufReader, Stdin};
+use std::ops::Range;
 use std::{array, env, fmt, fs, io};
 
 // The bytes that the words write, one word after another, with two digits to a byte.
@@ -120,13 +121,6 @@ fn command_in(rt: &HostRuntime, words: &[&str]) -> Result<Command, Complaint> {
     }
 }
 
-// The commands of a script, read line by line from standard input.
-#[derive(Drop)]
-struct Script<'a> {
-    rt: &'a HostRuntime,
-    lines: Split<BufReader<Stdin>>,
-}
-
 // The command in a line; none in a blank line and in a comment.
 fn read_line(rt: &HostRuntime, line: &[u8]) -> Result<Option<Command>, Complaint> {
     let line = std::str::from_utf8(line).map_err(|_| Complaint::NotText)?;
@@ -137,30 +131,55 @@ fn read_line(rt: &HostRuntime, line: &[u8]) -> Result<Option<Command>, Complaint
     Ok(Some(command_in(rt, &words)?))
 }
 
-// The command in a line, if it has one. What is wrong with the line is told.
-fn heard(rt: &HostRuntime, line: io::Result<Vec<u8>>) -> anyhow::Result<Option<Command>> {
-    read_line(rt, &line?).or_else(|complaint| {
-        println!(rt; "? {complaint}")?;
-        Ok(None)
-    })
+// The next command of the input; none at its end. What is wrong with the lines on the way is told.
+// Kept: a loop that reads each line into the space of the one before, since the library's `split` makes a `Vec` of each, and took two to three and a half times as long on lines that are blank or comments.
+// Out of line, and `next` within its callers: a command is large, and each function between the two would copy it.
+#[inline(never)]
+fn next_command(rt: &HostRuntime, input: &mut BufReader<Stdin>) -> anyhow::Result<Option<Command>> {
+    let mut line = Vec::new(rt.alloc());
+    for _ in 0..u64::MAX {
+        line.clear();
+        if input.read_until(b'\n', &mut line)? == 0 {
+            break;
+        }
+        match read_line(rt, &line) {
+            Ok(None) => {}
+            Ok(command) => return Ok(command),
+            Err(complaint) => println!(rt; "? {complaint}")?,
+        }
+    }
+    Ok(None)
+}
+
+// The commands of a script, read line by line from standard input.
+#[derive(Drop)]
+struct Script<'a> {
+    rt: &'a HostRuntime,
+    input: BufReader<Stdin>,
+    // How many commands may still come: more than any input has.
+    turns: Range<u64>,
 }
 
 impl Iterator for Script<'_> {
     type Item = anyhow::Result<Command>;
 
-    ghost remaining = { λ s. at_most (pieces_left_to_read s.lines) };
+    ghost remaining = { λ s. at_most (s.turns.end - s.turns.start) };
 
+    #[inline]
     fn next(&mut self) -> Option<anyhow::Result<Command>> {
-        let rt = self.rt;
-        self.lines.find_map(|line| heard(rt, line).transpose())
+        let _ = self.turns.next()?;
+        next_command(self.rt, &mut self.input).transpose()
     }
 }
 
 impl<'a> Script<'a> {
     fn new(rt: &'a HostRuntime) -> io::Result<Script<'a>> {
         let input = BufReader::new(rt.alloc(), rt.stdin())?;
-        let lines = input.split(rt.alloc(), b'\n');
-        Ok(Script { rt, lines })
+        Ok(Script {
+            rt,
+            input,
+            turns: 0..u64::MAX,
+        })
     }
 
     // The board that is described, and the first call or question after it; none where the script ends before one.
