@@ -9,6 +9,8 @@ use crate::instruction::Instruction;
 use crate::operation::{Binary, Immediate, Shift, Transfer, Unary};
 
 // The instruction that the word says, or none where its code is unassigned. Bits of no field do not matter.
+// Inlined, since a caller that needs one field then makes no other: `address` takes twice as long where it calls this.
+#[inline(always)]
 pub fn decode(word: u32) -> Option<Instruction>
     ensures { result ≡ decoded word }
 {
