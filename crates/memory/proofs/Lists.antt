@@ -40,6 +40,6 @@ unfolding word_list
 words_set ws n v f = ap cut (map-set wrap ws n v) ∙ cut_set (map wrap ws) n (wrap v) ∙ ap (λ w. set (word_list ws) n w) (wrapped v f)
 
 -- the loan stays as it is where it has the same name and rest
-pub loan_same : {T : Type 0} (past : List T → List ℕ) (s t : MutBor (List T)) → t.ghost_name ≡ s.ghost_name → past t.now ≡ past s.now → loan_of past t ≡ loan_of past s
+pub loan_same : {T : Type 0} (past past' : List T → List ℕ) (s t : MutBor (List T)) → t.ghost_name ≡ s.ghost_name → past' t.now ≡ past s.now → loan_of past' t ≡ loan_of past s
 unfolding loan_of
-loan_same past s t e f = cc
+loan_same past past' s t e f = cc
