@@ -19,6 +19,14 @@ mod tests {
         machine
     }
 
+    // What the machine has counted, told at once and one by one.
+    fn counted<M: Memory>(rt: &impl Abort, machine: &Machine<M>, counts: Counts) {
+        assert_eq!(rt; machine.counts(), counts);
+        assert_eq!(rt; machine.clocks(), counts.clocks);
+        assert_eq!(rt; machine.waits(), counts.waits);
+        assert_eq!(rt; machine.finished(), counts.finished);
+    }
+
     // The call is refused by that number.
     fn refused<T: Drop>(rt: &impl Abort, answer: Result<T, Refusal>, number: u8) {
         assert_eq!(rt; answer.err().map(|refusal| refusal.number()), Some(number));
@@ -39,13 +47,14 @@ mod tests {
         assert_eq!(rt; machine.clock(9), Ok(Ok((9, 1))));
         assert_eq!(rt; machine.step(), 3);
         assert_eq!(rt; machine.clock(100), Ok(Ok((1, 1))));
-        assert_eq!(rt;
-            machine.counts(),
+        counted(
+            &rt,
+            &machine,
             Counts {
                 clocks: 10,
                 waits: 0,
-                finished: 2
-            }
+                finished: 2,
+            },
         );
     }
 
@@ -57,13 +66,14 @@ mod tests {
             Stretch::new(0, 2, 3),
         ));
         assert_eq!(rt; machine.clock(1000), Ok(Ok((16, 2))));
-        assert_eq!(rt;
-            machine.counts(),
+        counted(
+            &rt,
+            &machine,
             Counts {
                 clocks: 16,
                 waits: 6,
-                finished: 2
-            }
+                finished: 2,
+            },
         );
     }
 
@@ -75,13 +85,14 @@ mod tests {
         assert_eq!(rt; machine.clock(1), Ok(Ok((1, 0))));
         assert!(rt; !machine.reset_waits());
         assert_eq!(rt; (machine.pc(), machine.step()), (0, 0));
-        assert_eq!(rt;
-            machine.counts(),
+        counted(
+            rt,
+            machine,
             Counts {
                 clocks: 0,
                 waits: 0,
-                finished: 0
-            }
+                finished: 0,
+            },
         );
         assert_eq!(rt; machine.register(1), Ok(r1));
     }
@@ -179,13 +190,14 @@ mod tests {
         ];
         let mut machine = perform_all(pile, &mut turns);
         assert_eq!(rt; turns[3].answer, Answer::Spent(13, 2));
-        assert_eq!(rt;
-            machine.counts(),
+        counted(
+            &rt,
+            &machine,
             Counts {
                 clocks: 13,
                 waits: 3,
-                finished: 2
-            }
+                finished: 2,
+            },
         );
         assert_eq!(rt; machine.word(1), Ok(LA_STOP[1]));
     }
